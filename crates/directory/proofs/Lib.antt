@@ -1,0 +1,4 @@
+pub mod Parts
+pub mod Names
+pub mod Slots
+pub mod Entries

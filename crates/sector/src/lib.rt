@@ -1,0 +1,2 @@
+// Blocks of 256 bytes, from wherever they come.
+pub mod source;
