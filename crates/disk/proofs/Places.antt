@@ -42,7 +42,7 @@ module _ (n : ℕ) (h : n < 683) where
   unfolding index-of
   index-at = grind (arith, tells)
 
-  filled-at : placed-at n ≡ Some (track-at n, sector-at n)
+  pub filled-at : placed-at n ≡ Some (track-at n, sector-at n)
   unfolding placed-at
   filled-at = cond-true (ltb n 683) (Some (track-at n, sector-at n)) None (lt-ltb n 683 h)
 

@@ -1,0 +1,2 @@
+// Blocks out of the bits of tracks.
+pub mod decoder;

@@ -1,0 +1,3 @@
+pub mod Bits
+pub mod Codes
+pub mod Sums

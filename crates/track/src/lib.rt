@@ -1,0 +1,6 @@
+// Tracks as circles of bits: sources of them, frames, headers and data blocks.
+pub mod block;
+pub mod laws;
+mod reads;
+pub mod source;
+mod window;
