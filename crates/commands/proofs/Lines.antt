@@ -4,6 +4,7 @@ use mathlib.Core.Path.{_≡_, refl, sym, ap, _∙_}
 use mathlib.Core.List.{List, [], _∷_, _++_, append-assoc, append-nil}
 use native.Mathlib.Omega.{arith}
 use lib.ListN.{length, getD, take, drop}
+use lib.Chars.{codes}
 use lib.Utf8.{encode}
 use Rattle.std.specs.declared.fmt.Formatter.{Formatter}
 use Rattle.std.specs.Joined.{joined}
@@ -11,6 +12,8 @@ use Rattle.std.specs.Written.{Plain, Put}
 use Rattle.std.proofs.Writes.{wrote-none, put-is, put-more}
 use Rattle.std.proofs.shelf.Lists.{joined-more, take-more, take-all, take-rest, nil-from-length}
 use Rattle.std.proofs.shelf.Text.{encode-ascii}
+use Rattle.commands.specs.declared.verb.Verb.{Verb}
+use Rattle.commands.specs.Verbs.{usage-line, usage-note, usage-shown, verbs}
 use Rattle.commands.specs.Hex.{hex-digit, hex-byte, next-byte, hex-line}
 
 pub digits-so : (b h l : ℕ) → h < 128 → l < 128 → h ≡ hex-digit (b / 16) → l ≡ hex-digit (b % 16) → encode h ++ encode l ≡ hex-byte b
@@ -41,3 +44,10 @@ module _ {W : Type 0} (took : W → List ℕ → W → Type 0) (f g h : Formatte
 
   pub wrote-line : (bs : List ℕ) (i : ℕ) → 0 < length bs → length (others bs) ≤ i → Put took f (hex-byte (getD bs 0 0)) g → Put took g (joined next-byte (take i (others bs))) h → Put took f (hex-line bs) h
   wrote-line bs i s l p q = put-is took f _ _ h (line-all bs i s l) (put-more took f _ g _ h p q)
+
+-- the usage: its first line, the commands, and the note
+module _ {W : Type 0} (took : W → List ℕ → W → Type 0) (f g h k : Formatter W) where
+  pub wrote-usage : (i : ℕ) → length verbs ≤ i → Put took f (codes "usage:") g → Put took g (joined usage-line (take i verbs)) h → Put took h usage-note k → Put took f usage-shown k
+  wrote-usage i l p q r =
+      put-is took f _ _ k (ap (λ (vs : List Verb). codes "usage:" ++ (joined usage-line vs ++ usage-note)) (take-all i verbs l))
+      (put-more took f _ g _ k p (put-more took g _ h _ k q r))

@@ -10,6 +10,7 @@ use Rattle.std.proofs.shelf.Lists.{take-rest, nil-from-length}
 use Rattle.std.proofs.shelf.Ways.{tells}
 use Rattle.std.specs.declared.option.Option.{Option}
 use Rattle.std.specs.declared.option.Option.the-variants.{None, Some}
+use Rattle.std.specs.Options.{isSome, mapped}
 use Rattle.commands.specs.Names.{hex-pair, paired, first-byte, behind, before, unescaped}
 
 -- a slice's pattern names the rest of a text by its length
@@ -48,18 +49,44 @@ unescaped-first (a ∷ b ∷ c ∷ d ∷ rest) h =
     ])
     ∙ ap going-on (sym (first-long a b c d rest))
 
+some-before : (b : ℕ) (o : Option (List ℕ)) → isSome (before (Some b) o) ≡ isSome o
+some-before b None = refl
+some-before b (Some bs) = refl
+
+some-first : (name : List ℕ) (o : Option (ℕ × List ℕ)) → true ≡ isSome (behind name (going-on o)) → isSome o ≡ true
+some-first name None e = sym e
+some-first name (Some p) e = refl
+
+some-mapped : {X Y : Type 0} (f : X → Y) (o : Option X) → isSome (mapped f o) ≡ isSome o
+some-mapped f None = refl
+some-mapped f (Some x) = refl
+
 pub behind-more : (name : List ℕ) (b : ℕ) (o : Option (List ℕ)) → behind (name ++ b ∷ []) o ≡ behind name (before (Some b) o)
 behind-more name b None = refl
 behind-more name b (Some bs) = ap (λ (l : List ℕ). Some l) (append-assoc name (b ∷ []) bs)
 
--- the ways of the loop: what is written, before what is left
-module _ (text rest name : List ℕ) (inv : behind name (unescaped rest) ≡ unescaped text) where
-  pub refused-so : 0 < length rest → None ≡ first-byte rest → unescaped text ≡ None
-  refused-so h e = sym inv ∙ ap (behind name) (unescaped-first rest h ∙ ap going-on (sym e))
+-- the ways of the loop that looks
+module _ (text rest : List ℕ) (inv : isSome (unescaped rest) ≡ isSome (unescaped text)) where
+  pub bad-so : 0 < length rest → None ≡ first-byte rest → false ≡ isSome (unescaped text)
+  bad-so h e = ap (λ (o : Option (ℕ × List ℕ)). isSome (going-on o)) e ∙ sym (ap isSome (unescaped-first rest h)) ∙ inv
 
-  pub step-so : (more tail : List ℕ) (b : ℕ) → 0 < length rest → Some (b, tail) ≡ first-byte rest → more ≡ name ++ b ∷ [] → behind more (unescaped tail) ≡ unescaped text
-  step-so more tail b h e m =
-      ap (λ (l : List ℕ). behind l (unescaped tail)) m ∙ behind-more name b (unescaped tail) ∙ ap (behind name) (ap going-on e ∙ sym (unescaped-first rest h)) ∙ inv
+  pub look-so : (tail : List ℕ) (b : ℕ) → 0 < length rest → Some (b, tail) ≡ first-byte rest → isSome (unescaped tail) ≡ isSome (unescaped text)
+  look-so tail b h e = sym (some-before b (unescaped tail)) ∙ ap (λ (o : Option (ℕ × List ℕ)). isSome (going-on o)) e ∙ sym (ap isSome (unescaped-first rest h)) ∙ inv
+
+  pub good-so : length rest ≡ 0 → true ≡ isSome (unescaped text)
+  unfolding unescaped
+  good-so e = sym (ap (λ (l : List ℕ). isSome (unescaped l)) (nil-from-length rest e)) ∙ inv
+
+-- the ways of the loop that writes: what is written, before what is left
+module _ (text rest name : List ℕ) (inv : behind name (unescaped rest) ≡ unescaped text) where
+  pub more-so : {X : Type 0} (f : X → ℕ × List ℕ) (r : Option X) → true ≡ isSome (unescaped text) → 0 < length rest → mapped f r ≡ first-byte rest → isSome r ≡ true
+  more-so f r s h e =
+      sym (some-mapped f r) ∙ ap isSome e ∙ some-first name (first-byte rest) (s ∙ ap isSome (sym inv ∙ ap (behind name) (unescaped-first rest h)))
+
+  pub step-so : {X : Type 0} (f : X → ℕ × List ℕ) (r : Option X) (x : X) (more : List ℕ) → 0 < length rest → mapped f r ≡ first-byte rest → r ≡ Some x → more ≡ name ++ f x .0 ∷ [] → behind more (unescaped (f x .1)) ≡ unescaped text
+  step-so f r x more h e s m =
+      ap (λ (l : List ℕ). behind l (unescaped (f x .1))) m ∙ behind-more name (f x .0) (unescaped (f x .1))
+      ∙ ap (behind name) (ap going-on (sym (ap (mapped f) s) ∙ e) ∙ sym (unescaped-first rest h)) ∙ inv
 
   pub end-so : length rest ≡ 0 → unescaped text ≡ Some name
   unfolding unescaped

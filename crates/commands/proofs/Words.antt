@@ -22,7 +22,7 @@ use Rattle.commands.specs.declared.verb.Verb.the-variants as verbs
 use Rattle.commands.specs.Names.{unescaped}
 use Rattle.commands.specs.Numbers.{byte-number}
 use Rattle.commands.specs.Verbs.{verb-of}
-use Rattle.commands.specs.Commands.{Asked, extract, block, nothing, unknown, miscounted, texts, named, numbered, counted, extract-of, block-of, asked-by, asked}
+use Rattle.commands.specs.Commands.{Asked, extract, block, survey, nothing, unknown, miscounted, texts, named, numbered, counted, extract-of, block-of, survey-of, asked-by, asked}
 
 pub length-texts : {Z : Type 0} (ws : List (String Z)) → length (texts ws) ≡ length ws
 unfolding texts
@@ -64,6 +64,9 @@ block-so ws t s image track sector l e f g n m =
     block-tracked ws t s track l e f n ∙ ap (λ (o : Option ℕ). numbered s o (λ sector. block (getD ws 1 []) (track, sector))) m
     ∙ ap (λ (x : List ℕ). block x (track, sector)) (sym g)
 
+pub survey-so : (ws : List (List ℕ)) (image : List ℕ) → length ws ≡ 2 → image ≡ getD ws 1 [] → survey-of ws ≡ survey image
+survey-so ws image l e = counted-so verbs.Survey 2 ws _ l ∙ ap (λ (x : List ℕ). survey x) (sym e)
+
 -- the first word tells the command
 asked-so : {Z : Type 0} (ws : List (String Z)) (w : List ℕ) (o : Option Verb) → false ≡ eqb (length ws) 0 → w ≡ getD (texts ws) 0 [] → o ≡ verb-of w → asked (texts ws) ≡ asked-by o (texts ws)
 unfolding asked
@@ -85,6 +88,6 @@ nothing-so ws e =
 other-text : (w t : List ℕ) → (w ≡ t → ⊥) → sameBytes w t ≡ false
 other-text w t n = elim (cases-bool (sameBytes w t)) [ inl e ↦ absurd (n (sameBytes-decides w t .0 e)) | inr e ↦ e ]
 
-pub no-verb : (w : List ℕ) → (w ≡ codes "extract" → ⊥) → (w ≡ codes "block" → ⊥) → (w ≡ codes "--help" → ⊥) → None ≡ verb-of w
+pub no-verb : (w : List ℕ) → (w ≡ codes "extract" → ⊥) → (w ≡ codes "block" → ⊥) → (w ≡ codes "survey" → ⊥) → (w ≡ codes "--help" → ⊥) → None ≡ verb-of w
 unfolding verb-of
-no-verb w x b h = rw (other-text w _ x, other-text w _ b, other-text w _ h)
+no-verb w x b s h = rw (other-text w _ x, other-text w _ b, other-text w _ s, other-text w _ h)

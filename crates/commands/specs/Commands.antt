@@ -16,7 +16,7 @@ use Rattle.std.specs.Of.Vec.{vec-items}
 use Rattle.commands.specs.declared.verb.Verb.{Verb}
 use Rattle.commands.specs.declared.verb.Verb.the-variants as verbs
 use Rattle.commands.specs.declared.command.Command.{Command}
-use Rattle.commands.specs.declared.command.Command.the-variants.{Extract, Block, Help}
+use Rattle.commands.specs.declared.command.Command.the-variants.{Extract, Block, Survey, Help}
 use Rattle.commands.specs.declared.command.CommandError.{CommandError}
 use Rattle.commands.specs.declared.command.CommandError.the-variants.{NoMemory, NoCommand, UnknownCommand, WrongCount, BadNumber, BadName}
 use Rattle.commands.specs.Names.{unescaped}
@@ -27,6 +27,7 @@ use Rattle.commands.specs.Verbs.{verb-of, usage-of}
 pub data Asked : Type 0 where
   extract : List ℕ → List ℕ → List ℕ → List ℕ → Asked
   block : List ℕ → ℕ × ℕ → Asked
+  survey : List ℕ → Asked
   help : Asked
   nothing : Asked
   unknown : List ℕ → Asked
@@ -60,6 +61,10 @@ block-of ws =
     counted verbs.Block 4 ws
     (numbered (getD ws 2 []) (byte-number (getD ws 2 [])) (λ track. numbered (getD ws 3 []) (byte-number (getD ws 3 [])) (λ sector. block (getD ws 1 []) (track, sector))))
 
+-- survey IMAGE
+abbrev pub survey-of : List (List ℕ) → Asked
+survey-of ws = counted verbs.Survey 2 ws (survey (getD ws 1 []))
+
 -- --help
 abbrev pub help-of : List (List ℕ) → Asked
 help-of ws = counted verbs.Help 1 ws help
@@ -68,15 +73,28 @@ abbrev pub asked-by : Option Verb → List (List ℕ) → Asked
 asked-by None ws = unknown (getD ws 0 [])
 asked-by (Some verbs.Extract) ws = extract-of ws
 asked-by (Some verbs.Block) ws = block-of ws
+asked-by (Some verbs.Survey) ws = survey-of ws
 asked-by (Some verbs.Help) ws = help-of ws
 
 -- what the words after the program's name ask for
 unfoldable pub asked : List (List ℕ) → Asked
 asked ws = cond (eqb (length ws) 0) nothing (asked-by (verb-of (getD ws 0 [])) ws)
 
--- the error says why; want of memory says nothing of the words
+-- commands that hold a name need memory
+abbrev pub Needs-memory : Asked → Type 0
+Needs-memory (extract image text name out) = Unit {0}
+Needs-memory (block image place) = ⊥
+Needs-memory (survey image) = ⊥
+Needs-memory help = ⊥
+Needs-memory nothing = ⊥
+Needs-memory (unknown w) = ⊥
+Needs-memory (miscounted v) = ⊥
+Needs-memory (no-number w) = ⊥
+Needs-memory (no-name w) = ⊥
+
+-- the error says why; want of memory comes only where words ask for a command that needs it
 abbrev pub Reports : CommandError → Asked → Type 0
-Reports NoMemory a = Unit {0}
+Reports NoMemory a = Needs-memory a
 Reports NoCommand a = a ≡ nothing
 Reports (UnknownCommand w) a = a ≡ unknown (w .now)
 Reports (WrongCount v) a = a ≡ miscounted v
@@ -86,6 +104,7 @@ Reports (BadName w) a = a ≡ no-name (w .now)
 abbrev pub Answers : Result Command CommandError → Asked → Type 0
 Answers (Ok (Extract image name out)) a = a ≡ extract (image .now) (name .text .now) (vec-items (name .bytes)) (out .now)
 Answers (Ok (Block image place)) a = a ≡ block (image .now) place
+Answers (Ok (Survey image)) a = a ≡ survey (image .now)
 Answers (Ok Help) a = a ≡ help
 Answers (Err e) a = Reports e a
 

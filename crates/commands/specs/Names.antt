@@ -1,19 +1,20 @@
 -- The bytes that a typed name stands for.
 use Prim.Native.Nat.{ℕ, _+_, _-_, _*_}
-use mathlib.Core.Path.{_≡_}
-use mathlib.Core.Bool.{Bool, cond, _&&_}
+use mathlib.Core.Bool.{cond}
 use mathlib.Core.List.{List, [], _∷_, _++_}
-use lib.Dec.{eqb, leb, ltb}
+use lib.Dec.{eqb, ltb}
 use lib.ListN.{length, getD, drop}
 use Rattle.std.specs.declared.option.Option.{Option}
 use Rattle.std.specs.declared.option.Option.the-variants.{None, Some}
+use Rattle.commands.specs.declared.name.NameError.{NameError}
+use Rattle.commands.specs.declared.name.NameError.the-variants.{NoMemory, BadEscape}
 
--- the value of a hexadecimal digit
+-- the value of a hexadecimal digit, of either case
 abbrev pub hex-value : ℕ → Option ℕ
 hex-value c =
-    cond (leb 48 c && leb c 57) (Some (c - 48))
-    (cond (leb 65 c && leb c 70) (Some (c - 55))
-    (cond (leb 97 c && leb c 102) (Some (c - 87)) None))
+    cond (ltb c 48) None (cond (ltb c 58) (Some (c - 48))
+    (cond (ltb c 65) None (cond (ltb c 71) (Some (c - 55))
+    (cond (ltb c 97) None (cond (ltb c 103) (Some (c - 87)) None)))))
 
 abbrev pub pair : Option ℕ → Option ℕ → Option ℕ
 pair None low = None
@@ -55,3 +56,8 @@ unescaped (a ∷ b ∷ []) = cond (eqb a 92) None (before (Some a) (unescaped (b
 unescaped (a ∷ b ∷ c ∷ []) = cond (eqb a 92) None (before (Some a) (unescaped (b ∷ c ∷ [])))
 unescaped (a ∷ b ∷ c ∷ d ∷ rest) =
     cond (eqb a 92) (cond (eqb b 120) (before (hex-pair c d) (unescaped rest)) None) (before (Some a) (unescaped (b ∷ c ∷ d ∷ rest)))
+
+-- why there is no name: a bad text, and want of memory only for a good one
+abbrev pub why-not : Option (List ℕ) → NameError
+why-not None = BadEscape
+why-not (Some name) = NoMemory

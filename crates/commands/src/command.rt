@@ -8,7 +8,7 @@ ghost use Rattle.std.specs.Results.{Cases};
 ghost use Rattle.std.specs.declared.option.Option.the-variants.{Some};
 ghost use Rattle.commands.specs.Names.{unescaped};
 ghost use Rattle.commands.specs.Numbers.{byte-number};
-ghost use Rattle.commands.specs.Commands.{Asked, texts, named, numbered, extract-of, block-of, help-of, asked, Reports, Answers, error-shown};
+ghost use Rattle.commands.specs.Commands.{Asked, texts, named, numbered, extract-of, block-of, survey-of, help-of, asked, Needs-memory, Reports, Answers, error-shown};
 use crate::name::*;
 use crate::number::*;
 use crate::verb::*;
@@ -17,13 +17,13 @@ use std::alloc::Global;
 use std::fmt;
 
 // A file's name: the text that the user gave, and the bytes for which it stands.
-#[derive(Debug, Drop)]
+#[derive(Drop)]
 pub struct Name<'a> {
     pub text: &'a str,
     pub bytes: Vec<u8>,
 }
 
-#[derive(Debug, Drop)]
+#[derive(Drop)]
 pub enum Command<'a> {
     Extract {
         image: &'a str,
@@ -34,10 +34,13 @@ pub enum Command<'a> {
         image: &'a str,
         place: Place,
     },
+    Survey {
+        image: &'a str,
+    },
     Help,
 }
 
-#[derive(Clone, Copy, Debug)]
+#[derive(Clone, Copy)]
 pub enum CommandError<'a> {
     NoMemory,
     NoCommand,
@@ -59,7 +62,7 @@ fn word_at(words: &[String], index: usize) -> &str
 
 // The name that is typed as `text`.
 fn name_of(heap: Global, text: &str) -> Result<Name<'_>, CommandError<'_>>
-    ensures { λ r. ⌜ Cases r (λ n. (n .text .now ≡ now (text .entry)) × (unescaped (now (text .entry)) ≡ Some (vec-items (n .bytes)))) (λ e. (k : List ℕ → Asked) → Reports e (named (now (text .entry)) (unescaped (now (text .entry))) k)) ⌝ }
+    ensures { λ r. ⌜ Cases r (λ n. (n .text .now ≡ now (text .entry)) × (unescaped (now (text .entry)) ≡ Some (vec-items (n .bytes)))) (λ e. (k : List ℕ → Asked) → ((n : List ℕ) → Needs-memory (k n)) → Reports e (named (now (text .entry)) (unescaped (now (text .entry))) k)) ⌝ }
 {
     match name_bytes(heap, text) {
         Ok(bytes) => Ok(Name { text, bytes }),
@@ -106,6 +109,17 @@ fn block(words: &[String]) -> Result<Command<'_>, CommandError<'_>>
     })
 }
 
+fn survey(words: &[String]) -> Result<Command<'_>, CommandError<'_>>
+    ensures { λ r. ⌜ Answers r (survey-of (texts (now (words .entry)))) ⌝ }
+{
+    if words.len() != 2 {
+        return Err(CommandError::WrongCount(Verb::Survey));
+    }
+    Ok(Command::Survey {
+        image: word_at(words, 1),
+    })
+}
+
 fn help(words: &[String]) -> Result<Command<'_>, CommandError<'_>>
     ensures { λ r. ⌜ Answers r (help-of (texts (now (words .entry)))) ⌝ }
 {
@@ -129,6 +143,7 @@ pub fn parse(heap: Global, words: &[String]) -> Result<Command<'_>, CommandError
     match verb {
         Verb::Extract => extract(heap, words),
         Verb::Block => block(words),
+        Verb::Survey => survey(words),
         Verb::Help => help(words),
     }
 }

@@ -18,7 +18,7 @@ fn hex_digit(number: u8) -> char
 }
 
 // A byte as two digits.
-#[derive(Clone, Copy, Debug)]
+#[derive(Clone, Copy)]
 pub struct HexByte(pub u8);
 
 pub impl fmt::Display for HexByte as HexByteDisplay {
@@ -32,7 +32,7 @@ pub impl fmt::Display for HexByte as HexByteDisplay {
 }
 
 // Bytes with a blank between any two.
-#[derive(Clone, Copy, Debug)]
+#[derive(Clone, Copy)]
 pub struct HexLine<'a>(pub &'a [u8]);
 
 pub impl fmt::Display for HexLine<'_> as HexLineDisplay {

@@ -1,28 +1,19 @@
 // A name as it is typed: text, and any byte as \xHH.
 ghost use mathlib.Core.Path.{_≡_};
 ghost use Rattle.std.specs.Of.Vec.{vec-items};
-ghost use Rattle.commands.specs.declared.name.NameError.the-variants.{NoMemory, BadEscape};
-ghost use Rattle.std.specs.declared.option.Option.the-variants.{Some, None};
-ghost use Rattle.std.specs.Options.{mapped};
+ghost use Rattle.commands.specs.declared.name.NameError.the-variants.{NoMemory};
+ghost use Rattle.std.specs.declared.option.Option.the-variants.{Some};
+ghost use Rattle.std.specs.Options.{isSome, mapped};
 ghost use Rattle.std.specs.Results.{Cases};
-ghost use Rattle.commands.specs.Names.{hex-value, hex-pair, first-byte, unescaped};
-use std::alloc::AllocError;
+ghost use Rattle.commands.specs.Names.{hex-value, hex-pair, first-byte, unescaped, why-not};
 use std::alloc::Global;
 use std::alloc::Refused;
 
-#[derive(Clone, Copy, Debug, PartialEq, Eq)]
+#[derive(Clone, Copy, Debug)]
 pub enum NameError {
     NoMemory,
     // a backslash that begins no \xHH
     BadEscape,
-}
-
-pub impl From<AllocError> for NameError as NameErrorFromAlloc {
-    ghost converts = { λ _ r. r ≡ NoMemory };
-
-    fn from(_e: AllocError) -> NameError {
-        NameError::NoMemory
-    }
 }
 
 pub impl<T: Drop> From<Refused<T>> for NameError as NameErrorFromRefused {
@@ -33,7 +24,7 @@ pub impl<T: Drop> From<Refused<T>> for NameError as NameErrorFromRefused {
     }
 }
 
-// The value of a hexadecimal digit.
+// The value of a hexadecimal digit of either case.
 fn hex_value(digit: u8) -> Option<u8>
     ensures { λ r. ⌜ r ≡ hex-value digit ⌝ }
 {
@@ -69,16 +60,31 @@ fn first_byte(text: &[u8]) -> Option<(u8, &[u8])>
     }
 }
 
-// The bytes that the text stands for.
-pub fn name_bytes(heap: Global, text: &str) -> Result<Vec<u8>, NameError>
-    ensures { λ r. ⌜ Cases r (λ name. unescaped (now (text .entry)) ≡ Some (vec-items name)) (λ e. e ≡ BadEscape → unescaped (now (text .entry)) ≡ None) ⌝ }
+// Whether the text stands for bytes.
+fn is_spelled(text: &[u8]) -> bool
+    ensures { λ r. ⌜ r ≡ isSome (unescaped (now (text .entry))) ⌝ }
 {
-    let mut name = Vec::new(heap);
-    let mut rest = text.as_bytes();
+    let mut rest = text;
     while !rest.is_empty() {
-        let Some((byte, tail)) = first_byte(rest) else {
-            return Err(NameError::BadEscape);
+        let Some((_, tail)) = first_byte(rest) else {
+            return false;
         };
+        rest = tail;
+    }
+    true
+}
+
+// The bytes that the text stands for. A bad text is refused before any memory is asked for.
+pub fn name_bytes(heap: Global, text: &str) -> Result<Vec<u8>, NameError>
+    ensures { λ r. ⌜ Cases r (λ name. unescaped (now (text .entry)) ≡ Some (vec-items name)) (λ e. e ≡ why-not (unescaped (now (text .entry)))) ⌝ }
+{
+    let mut rest = text.as_bytes();
+    if !is_spelled(rest) {
+        return Err(NameError::BadEscape);
+    }
+    let mut name = Vec::new(heap);
+    while !rest.is_empty() {
+        let (byte, tail) = first_byte(rest).unwrap();
         name.push(byte)?;
         rest = tail;
     }

@@ -5,15 +5,16 @@ ghost use Rattle.commands.specs.Verbs.{verb-of, usage-of, usage-shown};
 use std::fmt;
 
 // The word that a command begins with.
-#[derive(Clone, Copy, Debug, PartialEq, Eq)]
+#[derive(Clone, Copy)]
 pub enum Verb {
     Extract,
     Block,
+    Survey,
     Help,
 }
 
 impl Verb {
-    pub const ALL: [Verb; 3] = [Verb::Extract, Verb::Block, Verb::Help];
+    pub const ALL: [Verb; 4] = [Verb::Extract, Verb::Block, Verb::Survey, Verb::Help];
 
     pub fn of(word: &str) -> Option<Verb>
         ensures { λ r. ⌜ r ≡ verb-of (now (word .entry)) ⌝ }
@@ -21,6 +22,7 @@ impl Verb {
         match word {
             "extract" => Some(Verb::Extract),
             "block" => Some(Verb::Block),
+            "survey" => Some(Verb::Survey),
             "--help" => Some(Verb::Help),
             _ => None,
         }
@@ -33,13 +35,14 @@ impl Verb {
         match self {
             Verb::Extract => "extract IMAGE NAME OUT",
             Verb::Block => "block IMAGE TRACK SECTOR",
+            Verb::Survey => "survey IMAGE",
             Verb::Help => "--help",
         }
     }
 }
 
 // How all commands are written.
-#[derive(Clone, Copy, Debug)]
+#[derive(Clone, Copy)]
 pub struct Usage;
 
 pub impl fmt::Display for Usage as UsageDisplay {

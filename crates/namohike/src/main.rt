@@ -6,17 +6,19 @@ use commands::account::*;
 use commands::command::*;
 use commands::dump::*;
 use commands::verb::*;
-use d64::image::*;
 use disk::place::*;
+use disk::refusal::RefusalDisplay;
 use files::extract::*;
+use image::image::*;
 use sector::source::*;
 use std::env;
 use std::fs;
 use std::io;
+use tables::survey::*;
 
-fn read_disk<'a>(rt: &LibcRuntime, image: &'a str) -> Result<D64, Failure<'a>> {
+fn read_disk<'a>(rt: &LibcRuntime, image: &'a str) -> Result<Image, Failure<'a>> {
     match fs::read(rt, image) {
-        Ok(bytes) => Ok(D64::open(bytes, true)?),
+        Ok(bytes) => Ok(Image::open(bytes, true)?),
         Err(error) => Err(Failure::CannotRead(image, error)),
     }
 }
@@ -55,10 +57,43 @@ fn print_block<'a>(rt: &LibcRuntime, image: &'a str, place: Place) -> Result<(),
     Ok(())
 }
 
+// A line for each refused block, in place order, and how many there are.
+fn survey_disk<'a>(rt: &LibcRuntime, image: &'a str) -> Result<(), Failure<'a>> {
+    let disk = read_disk(rt, image)?;
+    let mut findings = [Finding {
+        number: 0,
+        layer: 0,
+    }; BLOCKS];
+    survey(&disk, &mut findings)?;
+    let mut refused = 0;
+    for index in 0..BLOCKS {
+        if findings[index].number != 0 {
+            refused += 1;
+            print_refusal(rt, &disk, index)?;
+        }
+    }
+    let tally = Tally {
+        read: BLOCKS - refused,
+        refused,
+    };
+    println!(rt, "{tally}")?;
+    Ok(())
+}
+
+fn print_refusal<'a>(rt: &LibcRuntime, disk: &Image, index: usize) -> Result<(), Failure<'a>> {
+    if let Some(place) = block_place(index) {
+        if let Err(refusal) = load(disk, place) {
+            println!(rt, "{refusal}")?;
+        }
+    }
+    Ok(())
+}
+
 fn obey<'a>(rt: &LibcRuntime, command: Command<'a>) -> Result<(), Failure<'a>> {
     match command {
         Command::Extract { image, name, out } => extract_file(rt, image, name, out),
         Command::Block { image, place } => print_block(rt, image, place),
+        Command::Survey { image } => survey_disk(rt, image),
         Command::Help => Ok(println!(rt, "{}", Usage)?),
     }
 }

@@ -5,3 +5,6 @@ pub mod Seeks
 pub mod Finds
 pub mod Blocks
 pub mod Packs
+pub mod Packing
+pub mod Starts
+pub mod Fetches

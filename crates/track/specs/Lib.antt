@@ -5,3 +5,4 @@ pub mod Places
 pub mod Shown
 pub mod Fetching
 pub mod Laws
+pub mod Aligning

@@ -96,7 +96,7 @@ fn find<'a>(track: &'a [u8], bits: usize, wanted: Place) -> Result<Window<'a>, C
 }
 
 // How many of the wanted bits the bytes of a track hold; no track has more than 65,536.
-fn held_bits(track: &[u8], bits: usize) -> usize
+pub(crate) fn held_bits(track: &[u8], bits: usize) -> usize
     ensures held { λ r. ⌜ r ≤ length (now (track .entry)) * 8 ⌝ }
     ensures small { λ r. ⌜ r ≤ 65536 ⌝ }
     ensures circle { λ r. ⌜ circle-of r (now (track .entry)) ≡ circle-of (min bits 65536) (now (track .entry)) ⌝ }

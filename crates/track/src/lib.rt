@@ -1,4 +1,5 @@
 // Tracks as circles of bits: sources of them, frames, headers and data blocks.
+pub mod align;
 pub mod block;
 pub mod laws;
 mod reads;

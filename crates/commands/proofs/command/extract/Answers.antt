@@ -14,7 +14,7 @@ returns-in-Break-name c =
     rw (p .1, p .2)
     (subst (λ (a : Asked). Reports (c .in-Break-name .field-0 .0) a)
     (sym (extract-named (texts (c .args .words .now)) (c .word-at .result .now) (length-texts (c .args .words .now) ∙ c .if-words-ne4 .left) (c .word-at .ensures)))
-    (c .in-Break-name .ensures tt _))
+    (c .in-Break-name .ensures tt _ (λ n. tt)))
 
 pub returns : need.returns
 returns c =

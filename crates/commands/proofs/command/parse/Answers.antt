@@ -21,6 +21,12 @@ returns-in-Block c =
     (verb-so (c .args .words .now) (c .word-at-word .result .now) _ _ (c .if-is-empty .ensures tt) (c .word-at-word .ensures) (c .in-Some .ensures tt) (c .in-Block .is))
     (c .block .ensures)
 
+pub returns-in-Survey : need.returns-in-Survey
+returns-in-Survey c =
+    subst (λ (a : Asked). Answers (c .survey .result) a)
+    (verb-so (c .args .words .now) (c .word-at-word .result .now) _ _ (c .if-is-empty .ensures tt) (c .word-at-word .ensures) (c .in-Some .ensures tt) (c .in-Survey .is))
+    (c .survey .ensures)
+
 pub returns-in-Help : need.returns-in-Help
 returns-in-Help c =
     subst (λ (a : Asked). Answers (c .help .result) a)

@@ -4,13 +4,10 @@ use mathlib.Core.Bool.{true}
 use mathlib.Core.List.{List, _∷_, _++_}
 use native.Mathlib.Omega.{arith}
 use lib.Chars.{codes}
-use Rattle.std.specs.Joined.{joined}
-use Rattle.std.proofs.shelf.Lists.{take-all}
-use Rattle.std.proofs.Writes.{put-is, put-more}
-use Rattle.commands.specs.declared.verb.Verb.{Verb}
+use Rattle.std.proofs.Writes.{put-is}
 use Rattle.commands.specs.declared.verb.Verb.the-variants.{Extract}
-use Rattle.commands.specs.Verbs.{usage-line, usage-note, verbs}
-use Rattle.commands.proofs.Lines.{put-none, wrote-next}
+use Rattle.commands.specs.Verbs.{usage-line, verbs}
+use Rattle.commands.proofs.Lines.{put-none, wrote-next, wrote-usage}
 use Rattle.commands.proofs.verb.UsageDisplay.fmt.Needs as need
 
 pub loop-verb-holds : need.loop-verb-holds
@@ -26,7 +23,5 @@ pub returns : need.returns
 returns g c = λ plain ok.
     let first = c .in-Continue-write .ensures tt .shows plain (refl {a = true}) in
     let lines = c .loop-verb .inv (first .plain) in
-    put-is (g .W·Write .took) (c .args .f .now) _ _ (c .write-2 .last .self)
-    (ap (λ (vs : List Verb). codes "usage:" ++ (joined usage-line vs ++ usage-note)) (take-all (c .loop-verb .verb-index) verbs (c .loop-verb-test .left)))
-    (put-more (g .W·Write .took) (c .args .f .now) _ (c .write .last .self) _ (c .write-2 .last .self) first
-    (put-more (g .W·Write .took) (c .write .last .self) _ (c .loop-verb .f) _ (c .write-2 .last .self) lines (c .write-2 .ensures .shows (lines .plain) ok)))
+    wrote-usage (g .W·Write .took) (c .args .f .now) (c .write .last .self) (c .loop-verb .f) (c .write-2 .last .self) (c .loop-verb .verb-index) (c .loop-verb-test .left) first lines
+    (c .write-2 .ensures .shows (lines .plain) ok)

@@ -1,0 +1,3 @@
+// Track sources whose circles begin right after a sync.
+pub mod aligner;
+pub mod laws;

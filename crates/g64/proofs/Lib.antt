@@ -1,0 +1,3 @@
+pub mod Tracks
+pub mod Tests
+pub mod Stored

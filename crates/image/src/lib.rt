@@ -1,0 +1,2 @@
+// Images of disks, whatever their kind.
+pub mod image;
