@@ -52,7 +52,7 @@ found-again p h =
     let e = place-same (track-at (index-of p), sector-at (index-of p)) p (legal-at (index-of p) w) h (index-at (index-of p) w) in
     filled-at (index-of p) w ∙ ap (λ (q : Place). Some q) e
 
-pub place-order : Place-order
+pub place-order : Place-order index-of
 place-order = record {
   within = index-within;
   ordered = ordered;
