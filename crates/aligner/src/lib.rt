@@ -1,3 +1,5 @@
 // Track sources whose circles begin right after a sync.
+#![tactic(auto)]
+
 pub mod aligner;
 pub mod laws;

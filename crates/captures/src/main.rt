@@ -1,4 +1,6 @@
 // Two captures, block by block and file by file, to be compared with what the tool that made them says.
+#![tactic(auto)]
+
 mod crc;
 
 use crate::crc::*;

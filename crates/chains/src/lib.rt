@@ -1,4 +1,6 @@
 // Blocks followed from link to link, over any source of blocks.
+#![tactic(auto)]
+
 pub mod chain;
 pub mod laws;
 pub mod route;

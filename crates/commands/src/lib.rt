@@ -1,4 +1,6 @@
 // What the command line says, and how answers are printed.
+#![tactic(auto)]
+
 pub mod account;
 pub mod command;
 pub mod dump;

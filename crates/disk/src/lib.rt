@@ -1,4 +1,6 @@
 // The words that all layers share: tracks, sectors, places, and refusals.
+#![tactic(auto)]
+
 pub mod bytes;
 pub mod cause;
 pub mod laws;

@@ -1,2 +1,4 @@
 // Images of disks, whatever their kind.
+#![tactic(auto)]
+
 pub mod image;

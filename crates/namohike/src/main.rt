@@ -1,4 +1,6 @@
 // The program: reads an image, does what the words ask for, and prints the answer.
+#![tactic(auto)]
+
 mod failure;
 mod put;
 mod replace;

@@ -1,4 +1,6 @@
 // Tracks as circles of bits: sources of them, frames, headers and data blocks.
+#![tactic(auto)]
+
 pub mod align;
 pub mod block;
 pub mod laws;

@@ -1,4 +1,6 @@
 // Tries what reading and writing answer: runs the script on standard input against a disk image.
+#![tactic(auto)]
+
 mod answer;
 mod bench;
 mod crc;

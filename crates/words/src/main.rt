@@ -1,4 +1,6 @@
 // Tries what command lines ask for: a line of standard input is one, with a bar between its words.
+#![tactic(auto)]
+
 use commands::account::*;
 use commands::command::*;
 use commands::dump::*;

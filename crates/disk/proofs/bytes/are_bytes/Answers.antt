@@ -6,4 +6,4 @@ pub returns-then-s-eq0 : goal.returns-then-s-eq0
 returns-then-s-eq0 c = λ k. subst (λ (x : ℕ). x < 256) (sym (get_or_past c.args.s.now k 0 (omega arith))) (omega arith)
 
 pub returns : goal.returns
-returns c = λ k. (c.type-inv.s k).fits
+returns c = λ k. (c.type_inv.s k).fits

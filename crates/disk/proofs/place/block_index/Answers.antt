@@ -6,9 +6,9 @@ pub returns-then-not-exists : goal.returns-then-not-exists
 unfolding order_of
 returns-then-not-exists c = search rules
 
-pub overflow-sub-before : goal.overflow-sub-before
+pub overflow_sub-before : goal.overflow_sub-before
 unfolding legal
-overflow-sub-before c = search rules
+overflow_sub-before c = search rules
 
 pub returns : goal.returns
 unfolding legal index_of order_of

@@ -18,6 +18,6 @@ pub returns-in-598-to-682 : goal.returns-in-598-to-682
 unfolding placed_at
 returns-in-598-to-682 c = search rules
 
-pub returns-in-default : goal.returns-in-default
+pub returns-in_default : goal.returns-in_default
 unfolding placed_at
-returns-in-default c = search rules
+returns-in_default c = search rules

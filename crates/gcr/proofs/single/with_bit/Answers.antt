@@ -15,14 +15,14 @@ small v k b h l =
     let s = bit_small b in
     fits_by v (1 * 2 ^ k % 256) k (bool_byte b) (one_shl k 8 l) h l (omega arith)
 
-pub overflow-mul-result-2 : goal.overflow-mul-result-2
-overflow-mul-result-2 c =
+pub overflow_mul-result-2 : goal.overflow_mul-result-2
+overflow_mul-result-2 c =
     let f = c.ranges.byte.fits in
     let m = small c.args.byte (7 - c.args.at) c.args.bit (omega arith) (omega arith) in
     omega arith
 
-pub overflow-add-result-2 : goal.overflow-add-result-2
-overflow-add-result-2 c =
+pub overflow_add-result-2 : goal.overflow_add-result-2
+overflow_add-result-2 c =
     let f = c.ranges.byte.fits in
     let m = small c.args.byte (7 - c.args.at) c.args.bit (omega arith) (omega arith) in
     omega arith
