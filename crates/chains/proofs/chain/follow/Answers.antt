@@ -11,32 +11,32 @@ loop-k-init g c =
     let e : most c.args.route.now - 0 ≡ most c.args.route.now = omega arith in
     (ap (λ (n : ℕ). chain_from (g.D.SectorSource.contents c.args.disk.now) c.args.route.now n [] c.args.from c.args.first) e, marks_none c.new-met.result.flags c.new-met.ensures, refl)
 
-pub returns-in-err-block : goal.returns-in-err-block
-returns-in-err-block g c =
-    let p = err_from_is_err_and c.from-residual.result c.from-residual.ensures.1 in
+pub returns-in_err-block : goal.returns-in_err-block
+returns-in_err-block g c =
+    let p = err_from_is_err_and c.from_residual.result c.from_residual.ensures.1 in
     let i = c.loop-k.invariant in
     let v = c.longest-k-end.ensures.value in
-    rw (p.1, p.2) (record { value = turn_unread _ _ (most c.args.route.now) c.loop-k.k c.loop-k.places c.loop-k.met.flags c.loop-k.back c.loop-k.here _ i.0 i.1 (omega arith) (omega arith) i.2 _ (sym c.visit.ensures ∙ c.in-err-block.was); within = tt })
+    rw (p.1, p.2) (record { value = turn_unread _ _ (most c.args.route.now) c.loop-k.k c.loop-k.places c.loop-k.met.flags c.loop-k.back c.loop-k.here _ i.0 i.1 (omega arith) (omega arith) i.2 _ (sym c.visit.ensures ∙ c.in_err-block.was); within = tt })
 
-pub returns-in-err-link : goal.returns-in-err-link
-returns-in-err-link g c =
-    let p = err_from_is_err_and c.from-residual-in-err-link.result c.from-residual-in-err-link.ensures.1 in
+pub returns-in_err-link : goal.returns-in_err-link
+returns-in_err-link g c =
+    let p = err_from_is_err_and c.from_residual-in_err-link.result c.from_residual-in_err-link.ensures.1 in
     let i = c.loop-k.invariant in
     let v = c.longest-k-end.ensures.value in
-    rw (p.1, p.2) (record { value = turn_unlinked _ _ (most c.args.route.now) c.loop-k.k c.loop-k.places c.loop-k.met.flags c.loop-k.back c.loop-k.here _ i.0 i.1 (omega arith) (omega arith) i.2 c.in-ok-block.block (sym c.visit.ensures ∙ c.in-ok-block.was) _ (sym c.link.ensures ∙ c.in-err-link.was); within = tt })
+    rw (p.1, p.2) (record { value = turn_unlinked _ _ (most c.args.route.now) c.loop-k.k c.loop-k.places c.loop-k.met.flags c.loop-k.back c.loop-k.here _ i.0 i.1 (omega arith) (omega arith) i.2 c.in_ok-block.block (sym c.visit.ensures ∙ c.in_ok-block.was) _ (sym c.link.ensures ∙ c.in_err-link.was); within = tt })
 
 pub returns-in-Stop : goal.returns-in-Stop
 returns-in-Stop g c =
     let i = c.loop-k.invariant in
     let v = c.longest-k-end.ensures.value in
-    record { value = turn_stop _ _ (most c.args.route.now) c.loop-k.k c.loop-k.places c.loop-k.met.flags c.loop-k.back c.loop-k.here _ i.0 i.1 (omega arith) (omega arith) i.2 c.in-ok-block.block (sym c.visit.ensures ∙ c.in-ok-block.was) (sym c.link.ensures ∙ c.in-ok-link.was ∙ ap Ok c.in-Stop.is); within = (omega arith, omega (arith, c.longest-k-end.ensures.within)) }
+    record { value = turn_stop _ _ (most c.args.route.now) c.loop-k.k c.loop-k.places c.loop-k.met.flags c.loop-k.back c.loop-k.here _ i.0 i.1 (omega arith) (omega arith) i.2 c.in_ok-block.block (sym c.visit.ensures ∙ c.in_ok-block.was) (sym c.link.ensures ∙ c.in_ok-link.was ∙ ap Ok c.in-Stop.is); within = (omega arith, omega (arith, c.longest-k-end.ensures.within)) }
 
 pub loop-k-preserved : goal.loop-k-preserved
 loop-k-preserved g c =
     let i = c.loop-k.invariant in
     let v = c.longest-k-end.ensures.value in (
-      turn_next _ _ (most c.args.route.now) c.loop-k.k c.loop-k.places c.loop-k.met.flags c.loop-k.back c.loop-k.here _ i.0 i.1 (omega arith) (omega arith) i.2 c.in-ok-block.block (sym c.visit.ensures ∙ c.in-ok-block.was) _ (sym c.link.ensures ∙ c.in-ok-link.was ∙ ap Ok c.in-Next.is),
-      turn_marks _ _ (most c.args.route.now) c.loop-k.k c.loop-k.places c.loop-k.met.flags c.loop-k.back c.loop-k.here _ i.0 i.1 (omega arith) (omega arith) i.2 c.in-ok-block.block (sym c.visit.ensures ∙ c.in-ok-block.was) _ c.add.ensures,
+      turn_next _ _ (most c.args.route.now) c.loop-k.k c.loop-k.places c.loop-k.met.flags c.loop-k.back c.loop-k.here _ i.0 i.1 (omega arith) (omega arith) i.2 c.in_ok-block.block (sym c.visit.ensures ∙ c.in_ok-block.was) _ (sym c.link.ensures ∙ c.in_ok-link.was ∙ ap Ok c.in-Next.is),
+      turn_marks _ _ (most c.args.route.now) c.loop-k.k c.loop-k.places c.loop-k.met.flags c.loop-k.back c.loop-k.here _ i.0 i.1 (omega arith) (omega arith) i.2 c.in_ok-block.block (sym c.visit.ensures ∙ c.in_ok-block.was) _ c.add.ensures,
       simp length-set i.2,
     )
 

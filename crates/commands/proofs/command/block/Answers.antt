@@ -7,13 +7,13 @@ use Rattle.commands.proofs.command.block.Goals as goal
 pub returns-then-words-ne4 : goal.returns-then-words-ne4
 returns-then-words-ne4 c = let e = length_texts c.args.words.now in search rules
 
-pub returns-in-err-place : goal.returns-in-err-place
-returns-in-err-place c =
-    let p = err_from_is_err_and c.from-residual.result c.from-residual.ensures.1 in
+pub returns-in_err-place : goal.returns-in_err-place
+returns-in_err-place c =
+    let p = err_from_is_err_and c.from_residual.result c.from_residual.ensures.1 in
     rw (p.1, p.2)
-    (block_misplaced (texts c.args.words.now) c.in-err-place.field-0.0 (length_texts c.args.words.now ∙ c.if-words-ne4.false) c.in-err-place.ensures)
+    (block_misplaced (texts c.args.words.now) c.in_err-place.field-0.0 (length_texts c.args.words.now ∙ c.if-words-ne4.false) c.in_err-place.ensures)
 
 pub returns : goal.returns
 returns c =
-    block_so (texts c.args.words.now) _ _ (length_texts c.args.words.now ∙ c.if-words-ne4.false) c.word-at.ensures
-    c.in-ok-place.ensures
+    block_so (texts c.args.words.now) _ _ (length_texts c.args.words.now ∙ c.if-words-ne4.false) c.word_at.ensures
+    c.in_ok-place.ensures

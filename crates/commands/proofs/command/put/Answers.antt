@@ -7,13 +7,13 @@ use Rattle.commands.proofs.command.put.Goals as goal
 pub returns-then-words-ne5 : goal.returns-then-words-ne5
 returns-then-words-ne5 c = let e = length_texts c.args.words.now in search rules
 
-pub returns-in-err-place : goal.returns-in-err-place
-returns-in-err-place c =
-    let p = err_from_is_err_and c.from-residual.result c.from-residual.ensures.1 in
+pub returns-in_err-place : goal.returns-in_err-place
+returns-in_err-place c =
+    let p = err_from_is_err_and c.from_residual.result c.from_residual.ensures.1 in
     rw (p.1, p.2)
-    (put_misplaced (texts c.args.words.now) c.in-err-place.field-0.0 (length_texts c.args.words.now ∙ c.if-words-ne5.false) c.in-err-place.ensures)
+    (put_misplaced (texts c.args.words.now) c.in_err-place.field-0.0 (length_texts c.args.words.now ∙ c.if-words-ne5.false) c.in_err-place.ensures)
 
 pub returns : goal.returns
 returns c =
-    put_so (texts c.args.words.now) _ _ _ (length_texts c.args.words.now ∙ c.if-words-ne5.false) c.word-at.ensures c.word-at-2.ensures
-    c.in-ok-place.ensures
+    put_so (texts c.args.words.now) _ _ _ (length_texts c.args.words.now ∙ c.if-words-ne5.false) c.word_at.ensures c.word_at-2.ensures
+    c.in_ok-place.ensures

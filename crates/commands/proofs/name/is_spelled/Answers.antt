@@ -2,10 +2,10 @@ use Rattle.std.proofs.Common.{arith, true-eqb, false-eqb}
 use Rattle.commands.proofs.Names.{bad_so, look_so, good_so}
 use Rattle.commands.proofs.name.is_spelled.Goals as goal
 
-pub returns-in-default : goal.returns-in-default
-returns-in-default c =
+pub returns-in_default : goal.returns-in_default
+returns-in_default c =
     let some = false-eqb _ 0 c.loop-rest-test.ensures in
-    bad_so c.args.text.now c.loop-rest.rest.now c.loop-rest.invariant (omega arith) c.in-default.ensures
+    bad_so c.args.text.now c.loop-rest.rest.now c.loop-rest.invariant (omega arith) c.in_default.ensures
 
 pub loop-rest-preserved : goal.loop-rest-preserved
 loop-rest-preserved c =

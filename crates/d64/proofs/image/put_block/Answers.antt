@@ -4,7 +4,7 @@ use Rattle.d64.proofs.image.put_block.Goals as goal
 
 pub returns : goal.returns
 returns c = record {
-  items = refilled_paste c.args.image.now c.args.at _ c.as-mut-slice.result.now c.copy-from-slice.new.self c.args.block.now
-      c.as-mut-slice.ensures.value c.copy-from-slice.ensures.after (omega arith) (omega arith) c.requires;
+  items = refilled_paste c.args.image.now c.args.at _ c.as_mut_slice.result.now c.copy_from_slice.new.self c.args.block.now
+      c.as_mut_slice.ensures.value c.copy_from_slice.ensures.after (omega arith) (omega arith) c.requires;
   small = search rules;
 }

@@ -9,19 +9,19 @@ use Rattle.decoder.proofs.coder.data_block.Goals as goal
 
 pub loop-k-preserved : goal.loop-k-preserved
 loop-k-preserved c =
-    let p : length c.plain-bytes-bytes.result ≡ 260 = ap length c.plain-bytes-bytes.ensures ∙ length_data c.args.block.now c.told-block in
+    let p : length c.plain_bytes-bytes.result ≡ 260 = ap length c.plain_bytes-bytes.ensures ∙ length_data c.args.block.now c.told-block in
     let o : length c.loop-k.coded ≡ 325 = c.loop-k.invariant.0 in
-    let r : length c.encode-group-five.result ≡ 5 = search rules in (
+    let r : length c.encode_group-five.result ≡ 5 = search rules in (
       simp length-set o,
-      group_more c.plain-bytes-bytes.result c.loop-k.coded c.encode-group-five.result c.loop-k.k p o r c.loop-k-test.true c.loop-k.invariant.1 c.encode-group-five.ensures,
+      group_more c.plain_bytes-bytes.result c.loop-k.coded c.encode_group-five.result c.loop-k.k p o r c.loop-k-test.true c.loop-k.invariant.1 c.encode_group-five.ensures,
     )
 
 pub returns : goal.returns
 unfolding data_bits
 returns c =
-    let p : length c.plain-bytes-bytes.result ≡ 260 = ap length c.plain-bytes-bytes.ensures ∙ length_data c.args.block.now c.told-block in
+    let p : length c.plain_bytes-bytes.result ≡ 260 = ap length c.plain_bytes-bytes.ensures ∙ length_data c.args.block.now c.told-block in
     let o : length c.loop-k.coded ≡ 325 = c.loop-k.invariant.0 in
     let h = c.loop-k-test.false in
     ap bits_of (sym (take_all (c.loop-k.k * 5) c.loop-k.coded (omega arith)))
     ∙ c.loop-k.invariant.1
-    ∙ ap (flat_map ten) (take_all (c.loop-k.k * 4) c.plain-bytes-bytes.result (omega arith) ∙ c.plain-bytes-bytes.ensures)
+    ∙ ap (flat_map ten) (take_all (c.loop-k.k * 4) c.plain_bytes-bytes.result (omega arith) ∙ c.plain_bytes-bytes.ensures)

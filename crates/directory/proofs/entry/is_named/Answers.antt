@@ -9,7 +9,7 @@ pub returns-in-Empty : goal.returns-in-Empty
 unfolding is_of
 returns-in-Empty c = search rules
 
-pub returns-in-default : goal.returns-in-default
-returns-in-default c =
-    named_by c.args.block.now c.args.name.now c.args.slot c.entry-at-entry.result _ _ c.eq.result
-    c.entry-at-entry.ensures c.in-default.not-Empty c.as-slice.ensures c.as-slice-in-default.ensures (slice_eq-Decides Decides-eqb _ _ _ c.eq.ensures)
+pub returns-in_default : goal.returns-in_default
+returns-in_default c =
+    named_by c.args.block.now c.args.name.now c.args.slot c.entry_at-entry.result _ _ c.eq.result
+    c.entry_at-entry.ensures c.in_default.not-Empty c.as_slice.ensures c.as_slice-in_default.ensures (slice_eq-Decides Decides-eqb _ _ _ c.eq.ensures)

@@ -7,16 +7,16 @@ pub loop-slot-init : goal.loop-slot-init
 unfolding slot_of
 loop-slot-init c = refl
 
-pub returns-then-is-named : goal.returns-then-is-named
-returns-then-is-named c =
+pub returns-then-is_named : goal.returns-then-is_named
+returns-then-is_named c =
     let t = slot_more (is_of c.args.block.now c.args.name.now) 8 c.loop-slot.slot (omega arith) in
-    let e : is_of c.args.block.now c.args.name.now c.loop-slot.slot ≡ true = sym c.if-is-named.ensures in
+    let e : is_of c.args.block.now c.args.name.now c.loop-slot.slot ≡ true = sym c.if-is_named.ensures in
     sym (rw e at t) ∙ c.loop-slot.invariant
 
 pub loop-slot-preserved : goal.loop-slot-preserved
 loop-slot-preserved c =
     let t = slot_more (is_of c.args.block.now c.args.name.now) 8 c.loop-slot.slot (omega arith) in
-    let e : is_of c.args.block.now c.args.name.now c.loop-slot.slot ≡ false = sym c.if-is-named.ensures in
+    let e : is_of c.args.block.now c.args.name.now c.loop-slot.slot ≡ false = sym c.if-is_named.ensures in
     sym (rw e at t) ∙ c.loop-slot.invariant
 
 pub returns : goal.returns

@@ -15,4 +15,4 @@ padded_so n name last e l h =
     ∙ ap (λ (k : ℕ). name ++ replicate (16 - k) 160) l
 
 pub returns : goal.returns
-returns c = padded_so (length c.args.name.now - 0) c.args.name.now c.copy-from-slice.new.self c.copy-from-slice.ensures.after (omega arith) (omega arith)
+returns c = padded_so (length c.args.name.now - 0) c.args.name.now c.copy_from_slice.new.self c.copy_from_slice.ensures.after (omega arith) (omega arith)

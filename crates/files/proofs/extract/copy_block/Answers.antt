@@ -18,5 +18,5 @@ laid_so a k n m block piece buffer ek em h l w e =
 pub returns : goal.returns
 returns c =
     let e = c.min-more.ensures in
-    laid_so (254 * c.args.k) _ (min (c.args.total - 254 * c.args.k) 254) _ c.args.block.now c.copy-from-slice.new.self c.args.buffer.now
-    (omega arith) (omega arith) (omega arith) (omega arith) (omega arith) c.copy-from-slice.ensures.after
+    laid_so (254 * c.args.k) _ (min (c.args.total - 254 * c.args.k) 254) _ c.args.block.now c.copy_from_slice.new.self c.args.buffer.now
+    (omega arith) (omega arith) (omega arith) (omega arith) (omega arith) c.copy_from_slice.ensures.after

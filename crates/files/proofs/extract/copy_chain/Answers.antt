@@ -26,6 +26,6 @@ loop-k-preserved g c =
     let w : c.loop-k.k < c.args.chain.now.count = c.loop-k-test.true in
     let l : length (take c.args.chain.now.count c.args.chain.now.places) ≡ c.args.chain.now.count = length-take-le _ _ (omega arith) in
     let e = get_or-take c.args.chain.now.count c.args.chain.now.places c.loop-k.k (0, 0) w in
-    c.copy-block.ensures
+    c.copy_block.ensures
     ∙ copied_more (g.D.SectorSource.contents c.args.disk.now) (take c.args.chain.now.count c.args.chain.now.places) c.loop-k.k c.args.total c.args.buffer.now c.loop-k.buffer c.unwrap-block.result
     h.readable (omega arith) (omega (arith, h.low)) (omega (arith, h.high)) h.fits (ap (loaded (g.D.SectorSource.contents c.args.disk.now)) e ∙ sym c.load.ensures ∙ c.unwrap-block.ensures) c.loop-k.invariant

@@ -2,13 +2,13 @@ use Rattle.std.proofs.Common.{rules}
 use Rattle.files.specs.Found.{located}
 use Rattle.files.proofs.find.locate.Goals as goal
 
-pub returns-in-err-title : goal.returns-in-err-title
+pub returns-in_err-title : goal.returns-in_err-title
 unfolding located
-returns-in-err-title g c = search rules
+returns-in_err-title g c = search rules
 
-pub returns-in-err-chain : goal.returns-in-err-chain
+pub returns-in_err-chain : goal.returns-in_err-chain
 unfolding located
-returns-in-err-chain g c = search rules
+returns-in_err-chain g c = search rules
 
 pub returns-in-Some : goal.returns-in-Some
 unfolding located

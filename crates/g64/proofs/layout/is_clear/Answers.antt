@@ -10,16 +10,16 @@ loop-other-init c =
     let e : 36 - (c.args.track + 1) ≡ 35 - c.args.track = omega arith in
     ap (λ (n : ℕ). each (apart c.args.file.now c.args.track) n (c.args.track + 1)) e
 
-pub returns-then-not-are-apart : goal.returns-then-not-are-apart
-returns-then-not-are-apart c =
+pub returns-then-not-are_apart : goal.returns-then-not-are_apart
+returns-then-not-are_apart c =
     let t = each_more (apart c.args.file.now c.args.track) 36 c.loop-other.other (omega arith) in
-    let e : apart c.args.file.now c.args.track c.loop-other.other ≡ false = sym c.if-not-are-apart.ensures in
+    let e : apart c.args.file.now c.args.track c.loop-other.other ≡ false = sym c.if-not-are_apart.ensures in
     sym (rw e at t) ∙ c.loop-other.invariant
 
 pub loop-other-preserved : goal.loop-other-preserved
 loop-other-preserved c =
     let t = each_more (apart c.args.file.now c.args.track) 36 c.loop-other.other (omega arith) in
-    let e : apart c.args.file.now c.args.track c.loop-other.other ≡ true = sym c.if-not-are-apart.ensures in
+    let e : apart c.args.file.now c.args.track c.loop-other.other ≡ true = sym c.if-not-are_apart.ensures in
     sym (rw e at t) ∙ c.loop-other.invariant
 
 pub returns : goal.returns

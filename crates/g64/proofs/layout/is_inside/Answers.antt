@@ -4,12 +4,12 @@ use Rattle.g64.specs.Tests.{inside_none, inside_not, inside_so}
 use Rattle.g64.proofs.layout.is_inside.Goals as goal
 
 pub returns-then-offset-eq0 : goal.returns-then-offset-eq0
-returns-then-offset-eq0 c = inside_none c.args.file.now c.args.track (sym c.offset-of-offset.ensures.value ∙ c.if-offset-eq0.true)
+returns-then-offset-eq0 c = inside_none c.args.file.now c.args.track (sym c.offset_of-offset.ensures.value ∙ c.if-offset-eq0.true)
 
 pub returns-then-offset-lt684 : goal.returns-then-offset-lt684
 returns-then-offset-lt684 c =
-    let a = c.offset-of-offset.ensures.value in
-    let n = c.length-of-bytes.ensures.value in
+    let a = c.offset_of-offset.ensures.value in
+    let n = c.length_of-bytes.ensures.value in
     let m = c.read16-largest.ensures.value in
     inside_not c.args.file.now c.args.track (λ z. c.if-offset-eq0.false (a ∙ z))
     (⊎_elim
@@ -19,8 +19,8 @@ returns-then-offset-lt684 c =
 
 pub returns : goal.returns
 returns c =
-    let a = c.offset-of-offset.ensures.value in
-    let n = c.length-of-bytes.ensures.value in
+    let a = c.offset_of-offset.ensures.value in
+    let n = c.length_of-bytes.ensures.value in
     let m = c.read16-largest.ensures.value in
     (λ i. leb (a i + 2 + n i) (length c.args.file.now))
     ∙ inside_so c.args.file.now c.args.track (λ z. c.if-offset-eq0.false (a ∙ z)) (omega arith) (omega arith)

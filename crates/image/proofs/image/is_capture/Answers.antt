@@ -23,4 +23,4 @@ pub returns-then-file-lt8 : goal.returns-then-file-lt8
 returns-then-file-lt8 c = short c.args.file.now c.if-file-lt8.true
 
 pub returns : goal.returns
-returns c = compared c.args.file.now c.as-slice.result.now c.eq.result c.as-slice.ensures (slice_eq-Decides Decides-eqb _ _ _ c.eq.ensures)
+returns c = compared c.args.file.now c.as_slice.result.now c.eq.result c.as_slice.ensures (slice_eq-Decides Decides-eqb _ _ _ c.eq.ensures)

@@ -18,13 +18,13 @@ loop-at-preserved c =
     let L : List Bool = take c.args.count B in
     let p : ℕ = c.loop-at.place in
     let q : ℕ = c.if-place-bits.place in
-    let s = span c.args.bits c.args.start c.args.count (length c.args.given.now) (sym c.if-not-span-fits.ensures) in
+    let s = span c.args.bits c.args.start c.args.count (length c.args.given.now) (sym c.if-not-span_fits.ensures) in
     let g = s.given in
     let n = length_bits_of c.loop-at.track in
     let m = length_bits_of c.args.given.now in
     let k = length-take-le c.args.count B (omega arith) in
     let h : p < c.args.bits = c.loop-at.invariant.0 in
-    let b : c.bit-at.result ≡ get_or L c.loop-at.at false = c.bit-at.ensures ∙ sym (get_or-take c.args.count B c.loop-at.at false (omega arith)) in
+    let b : c.bit_at.result ≡ get_or L c.loop-at.at false = c.bit_at.ensures ∙ sym (get_or-take c.args.count B c.loop-at.at false (omega arith)) in
     let next : q ≡ cond (eqb (suc p) c.args.bits) 0 (suc p) = elim c.if-place-bits.branch [
       | then-place-bits w ↦ w.place-is ∙ sym (cond-true (eqb (suc p) c.args.bits) 0 (suc p) (eq-eqb _ _ (let z = w.if-place-bits.true in omega arith)))
       | else-place-bits w ↦ w.place-is ∙ (let z : p + 1 ≡ suc p = omega arith in z) ∙ sym (cond-false (eqb (suc p) c.args.bits) 0 (suc p) (ne_eqb _ _ (λ y. let z = w.if-place-bits.false in omega arith)))
@@ -34,8 +34,8 @@ loop-at-preserved c =
       | else-place-bits w ↦ omega (arith, w.place-is, w.if-place-bits.false)
     ] in (
       r,
-      put_more c.args.bits A (bits_of c.set-bit.new.bytes) L _ p q c.loop-at.at c.bit-at.result h (omega arith) c.set-bit.ensures b (omega arith) next c.loop-at.invariant.1,
-      put_spare c.args.bits p A (bits_of c.set-bit.new.bytes) _ c.bit-at.result h c.set-bit.ensures c.loop-at.invariant.2,
+      put_more c.args.bits A (bits_of c.set_bit.new.bytes) L _ p q c.loop-at.at c.bit_at.result h (omega arith) c.set_bit.ensures b (omega arith) next c.loop-at.invariant.1,
+      put_spare c.args.bits p A (bits_of c.set_bit.new.bytes) _ c.bit_at.result h c.set_bit.ensures c.loop-at.invariant.2,
     )
 
 pub returns : goal.returns
@@ -45,7 +45,7 @@ returns c =
     let new : List ℕ = c.args.given.now in
     let L : List Bool = take c.args.count (bits_of new) in
     let C : List Bool = circle_of N old in
-    let f : fits N c.args.start c.args.count (length new) ≡ true = sym c.if-not-span-fits.ensures in
+    let f : fits N c.args.start c.args.count (length new) ≡ true = sym c.if-not-span_fits.ensures in
     let s = span N c.args.start c.args.count (length new) f in
     let near = s.near in
     let short = s.short in

@@ -11,7 +11,7 @@ loop-i-init g c = refl
 pub loop-i-preserved : goal.loop-i-preserved
 loop-i-preserved g c =
     let h : c.loop-i.i < length c.args.table.now = omega arith in
-    let m = surveyed_more (g.D.SectorSource.contents c.args.disk.now) c.args.table.now c.loop-i.i c.look-at.result h c.look-at.ensures in
+    let m = surveyed_more (g.D.SectorSource.contents c.args.disk.now) c.args.table.now c.loop-i.i c.look_at.result h c.look_at.ensures in
     let i = c.loop-i.invariant in
     cc
 

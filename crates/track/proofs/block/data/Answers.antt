@@ -19,10 +19,10 @@ returns-then-window-lt2600 c =
     let e = data_short (shown c.args.window.now) (sym (ap (λ (m : ℕ). Some m) c.if-mark-ne7.false) ∙ c.in-Some.ensures) (omega arith) in
     record { answer = sym (ap reading_result e); buffer = sym (ap (λ (r : Result (List ℕ) Cause). reading_buffer r c.args.block.now) e) }
 
-pub returns-in-default-byte : goal.returns-in-default-byte
-returns-in-default-byte c =
+pub returns-in_default-byte : goal.returns-in_default-byte
+returns-in_default-byte c =
     let n = length_shown c.args.window.now c.requires in
-    let e = data_long (shown c.args.window.now) None (sym (ap (λ (m : ℕ). Some m) c.if-mark-ne7.false) ∙ c.in-Some.ensures) (omega arith) (left_fails (shown c.args.window.now) c.loop-k.k c.loop-k.bytes (omega arith) c.in-default-byte.ensures c.loop-k.invariant.0) in
+    let e = data_long (shown c.args.window.now) None (sym (ap (λ (m : ℕ). Some m) c.if-mark-ne7.false) ∙ c.in-Some.ensures) (omega arith) (left_fails (shown c.args.window.now) c.loop-k.k c.loop-k.bytes (omega arith) c.in_default-byte.ensures c.loop-k.invariant.0) in
     record { answer = sym (ap reading_result e); buffer = sym (ap (λ (r : Result (List ℕ) Cause). reading_buffer r c.args.block.now) e) }
 
 pub loop-k-preserved : goal.loop-k-preserved
@@ -31,11 +31,11 @@ loop-k-preserved c = (
   length-set c.loop-k.bytes c.loop-k.k c.in-Some-byte.byte ∙ c.loop-k.invariant.1,
 )
 
-pub returns-in-default-byte-2 : goal.returns-in-default-byte-2
-returns-in-default-byte-2 c =
+pub returns-in_default-byte-2 : goal.returns-in_default-byte-2
+returns-in_default-byte-2 c =
     let n = length_shown c.args.window.now c.requires in
     let g : 257 ≡ c.loop-k.k + 1 = omega arith in
-    let e = data_long (shown c.args.window.now) None (sym (ap (λ (m : ℕ). Some m) c.if-mark-ne7.false) ∙ c.in-Some.ensures) (omega arith) (left_fails (shown c.args.window.now) c.loop-k.k c.loop-k.bytes (omega arith) (c.in-default-byte-2.ensures ∙ ap (byte_at (shown c.args.window.now)) g) c.loop-k.invariant.0) in
+    let e = data_long (shown c.args.window.now) None (sym (ap (λ (m : ℕ). Some m) c.if-mark-ne7.false) ∙ c.in-Some.ensures) (omega arith) (left_fails (shown c.args.window.now) c.loop-k.k c.loop-k.bytes (omega arith) (c.in_default-byte-2.ensures ∙ ap (byte_at (shown c.args.window.now)) g) c.loop-k.invariant.0) in
     record { answer = sym (ap reading_result e); buffer = sym (ap (λ (r : Result (List ℕ) Cause). reading_buffer r c.args.block.now) e) }
 
 pub returns-then-checksum-sum : goal.returns-then-checksum-sum

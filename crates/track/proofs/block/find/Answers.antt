@@ -23,8 +23,8 @@ loop-window-init c =
       tt,
     )
 
-pub loop-window-preserved-in-default-header : goal.loop-window-preserved-in-default-header
-loop-window-preserved-in-default-header c =
+pub loop-window-preserved-in_default-header : goal.loop-window-preserved-in_default-header
+loop-window-preserved-in_default-header c =
     let e = c.in-Some-next.ensures in
     let M : Moved c.in-Some-next.window c.loop-window.data c.if-waiting.data c.loop-window.waiting c.if-waiting.waiting =
     elim c.if-waiting.branch [ then-waiting w ↦ inl (w.if-waiting.true, w.waiting-is, w.data-is) | else-waiting w ↦ inr (w.if-waiting.false, w.waiting-is, w.data-is) ] in
@@ -109,7 +109,7 @@ returns c =
     let wh = c.loop-window.invariant.2 in
     let wa = c.new-all.ensures.whole in
     let n = length_circle c.args.bits c.args.track.now c.requires.held in
-    let r : rest k ≡ [] = c.in-default-next.ensures in
+    let r : rest k ≡ [] = c.in_default-next.ensures in
     let ps : passed k ≡ frames C = all_passed (whole k) k.at k.bits k.placed (length_circle k.bits k.track.now k.held) r ∙ ap frames wh in
     let v : sought (frames C) t s ≡ at (cond c.loop-window.waiting (shown c.in-Some.first) (shown c.loop-window.data)) =
     sym c.loop-window.invariant.1

@@ -8,4 +8,4 @@ use Rattle.track.proofs.reads.is_start.Goals as goal
 pub returns : goal.returns
 returns c =
     let n = len c.args.at c.args.bits c.args.track.now c.requires.held in
-    c.ten-ones.ensures ∙ start_is (turned c.args.at (circle_of c.args.bits c.args.track.now)) _ c.if-circle-bit.ensures (omega arith)
+    c.ten_ones.ensures ∙ start_is (turned c.args.at (circle_of c.args.bits c.args.track.now)) _ c.if-circle_bit.ensures (omega arith)

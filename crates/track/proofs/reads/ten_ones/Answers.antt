@@ -10,8 +10,8 @@ returns-then-i-j c =
     let n = len c.args.first c.args.bits c.args.track.now c.requires.held in
     ones_stops (turned c.args.first (circle_of c.args.bits c.args.track.now)) c.args.i c.loop-j.j c.loop-j.invariant (omega arith) (omega arith)
 
-pub returns-then-not-circle-bit : goal.returns-then-not-circle-bit
-returns-then-not-circle-bit c =
+pub returns-then-not-circle_bit : goal.returns-then-not-circle_bit
+returns-then-not-circle_bit c =
     let n = len c.args.first c.args.bits c.args.track.now c.requires.held in
     ones_fails (turned c.args.first (circle_of c.args.bits c.args.track.now)) c.args.i c.loop-j.j c.loop-j.invariant (omega arith) (omega arith) (cc)
 

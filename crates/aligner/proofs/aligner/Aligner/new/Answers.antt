@@ -22,6 +22,6 @@ loop-track-preserved g c =
     let p : ℕ = c.loop-track.track in
     let k : length c.loop-track.starts ≡ 36 = c.loop-track.invariant.0 in
     let d = is_on_disk p (omega arith) (omega arith) in (
-      length-set c.loop-track.starts p c.start-of.result ∙ k,
-      one_more c.loop-track.starts p c.start-of.result (λ t. first_start (s t)) (omega arith) (at_on p c.start-of.result (first_start (s p)) d c.start-of.ensures) c.loop-track.invariant.1,
+      length-set c.loop-track.starts p c.start_of.result ∙ k,
+      one_more c.loop-track.starts p c.start_of.result (λ t. first_start (s t)) (omega arith) (at_on p c.start_of.result (first_start (s p)) d c.start_of.ensures) c.loop-track.invariant.1,
     )

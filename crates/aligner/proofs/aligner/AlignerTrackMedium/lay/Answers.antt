@@ -15,10 +15,10 @@ returns g c =
     let z : List ℕ = replicate {A = ℕ} 8192 0 in
     let l : length z ≡ 8192 = length-replicate {A = ℕ} 8192 0 in
     let m : 8192 ≤ length z = omega arith in
-    let d = fetched_on s t c.in-ok-size.size (length z) m c.in-ok-size.ensures.answer in
-    let n = fetched_bits s t c.in-ok-size.size (length z) d m c.in-ok-size.ensures.answer in
-    let q = c.place-of.ensures ∙ ap (λ (x : ℕ). unturned x (k t) c.args.start) n in
-    let T = turned_lay G s k t c.args.start c.place-of.result c.args.count c.args.bytes.now q in
+    let d = fetched_on s t c.in_ok-size.size (length z) m c.in_ok-size.ensures.answer in
+    let n = fetched_bits s t c.in_ok-size.size (length z) d m c.in_ok-size.ensures.answer in
+    let q = c.place_of.ensures ∙ ap (λ (x : ℕ). unturned x (k t) c.args.start) n in
+    let T = turned_lay G s k t c.args.start c.place_of.result c.args.count c.args.bytes.now q in
     record {
       answer = c.lay.ensures.answer ∙ T.answer;
       circle = λ u. ap (turned (k u)) (c.lay.ensures.circle u) ∙ T.circle u;

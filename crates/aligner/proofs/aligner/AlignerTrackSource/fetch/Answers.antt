@@ -19,10 +19,10 @@ returns g c =
     let l : length z ≡ 8192 = length-replicate {A = ℕ} 8192 0 in
     let m : 8192 ≤ length z = omega arith in
     let b = g.met.S.TrackSource.bounded c.args.self.now.source t in
-    let d = fetched_on s t c.in-ok-bits.bits (length z) m c.in-ok-bits.ensures.answer in
-    let n = fetched_bits s t c.in-ok-bits.bits (length z) d m c.in-ok-bits.ensures.answer in
-    let e = fetched_circle s t c.in-ok-bits.bits z c.fetch.new.buffer d m b n c.in-ok-bits.ensures.buffer in
+    let d = fetched_on s t c.in_ok-bits.bits (length z) m c.in_ok-bits.ensures.answer in
+    let n = fetched_bits s t c.in_ok-bits.bits (length z) d m c.in_ok-bits.ensures.answer in
+    let e = fetched_circle s t c.in_ok-bits.bits z c.fetch.new.buffer d m b n c.in_ok-bits.ensures.buffer in
     record {
-      answer = answered C t c.in-ok-bits.bits (length old) d c.if-buffer-lt8192.false (n ∙ sym (length_turned k (s t)));
-      buffer = c.pack-turned.ensures ∙ ap (λ (x : List Bool). pack_buffer (turned k x) old) e ∙ sym (cond-true (on_disk t) (pack_buffer (C t) old) old d);
+      answer = answered C t c.in_ok-bits.bits (length old) d c.if-buffer-lt8192.false (n ∙ sym (length_turned k (s t)));
+      buffer = c.pack_turned.ensures ∙ ap (λ (x : List Bool). pack_buffer (turned k x) old) e ∙ sym (cond-true (on_disk t) (pack_buffer (C t) old) old d);
     }

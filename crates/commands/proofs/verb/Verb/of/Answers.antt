@@ -24,5 +24,5 @@ pub returns-in-text : goal.returns-in-text
 unfolding verb_of
 returns-in-text c = sym (ap verb_of c.in-text.is)
 
-pub returns-in-default : goal.returns-in-default
-returns-in-default c = no_verb c.args.word.now c.in-default.not-extract c.in-default.not-block c.in-default.not-put c.in-default.not-survey c.in-default.not-text
+pub returns-in_default : goal.returns-in_default
+returns-in_default c = no_verb c.args.word.now c.in_default.not-extract c.in_default.not-block c.in_default.not-put c.in_default.not-survey c.in_default.not-text

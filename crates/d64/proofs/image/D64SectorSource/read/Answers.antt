@@ -3,9 +3,9 @@ use Rattle.sector.specs.Source.{loaded}
 use Rattle.d64.specs.Image.{block_at}
 use Rattle.d64.proofs.image.D64SectorSource.read.Goals as goal
 
-pub returns-in-default : goal.returns-in-default
+pub returns-in_default : goal.returns-in_default
 unfolding loaded
-returns-in-default c = search rules
+returns-in_default c = search rules
 
 pub returns-then-len-ne-LENGTH : goal.returns-then-len-ne-LENGTH
 unfolding loaded block_at

@@ -19,7 +19,7 @@ returns c =
     record {
       answer = answered (circle_on f) t (8 * length c.stored-bytes.result.now) (length old) d (omega arith) count;
       buffer =
-          copied_is (length c.stored-bytes.result.now - 0) (stored_on f t) old c.copy-from-slice.new.self (c.copy-from-slice.ensures.after ∙ v) (omega arith)
+          copied_is (length c.stored-bytes.result.now - 0) (stored_on f t) old c.copy_from_slice.new.self (c.copy_from_slice.ensures.after ∙ v) (omega arith)
           ∙ ap (λ (x : List ℕ). laid x old) (sym (packs (stored_on f t) (stored_bytes f t c.args.self.now.small)))
           ∙ sym (buffered (circle_on f) t old d (omega arith));
     }

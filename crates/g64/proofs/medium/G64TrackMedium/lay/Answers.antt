@@ -10,13 +10,13 @@ use Rattle.g64.proofs.Written.{accepted}
 use Rattle.g64.specs.Stored.{is_given}
 use Rattle.g64.proofs.medium.G64TrackMedium.lay.Goals as goal
 
-pub lay-stored-requires : goal.lay-stored-requires
-lay-stored-requires c =
+pub lay_stored-requires : goal.lay_stored-requires
+lay_stored-requires c =
     let f : List ℕ = c.args.self.now.image.items in
     let t : ℕ = c.args.track in
     let m : ℕ = length c.args.bytes.now in
-    let a = accepted c.args.self.now.protected f t c.args.start c.args.count m c.bits-on-size.result c.bits-on-size.ensures c.in-ok-lay-check.ensures in
-    let v = c.as-mut-slice.ensures.value in
+    let a = accepted c.args.self.now.protected f t c.args.start c.args.count m c.bits_on-size.result c.bits_on-size.ensures c.in_ok-lay_check.ensures in
+    let v = c.as_mut_slice.ensures.value in
     record {
       given = ap (λ (x : List ℕ). given x t) v ∙ a.has;
       fits = ap (λ (x : List ℕ). fits (length (circle_on x t)) c.args.start c.args.count m) v ∙ a.fitting;
@@ -26,14 +26,14 @@ lay-stored-requires c =
 lent : (n : ℕ) (new old given : List ℕ) → length new ≡ length given → length given ≡ n → take n (new ++ drop (length new) old) ≡ new
 lent n new old given k l = take_at new (drop (length new) old) n (k ∙ l)
 
-pub invariant-of-self : goal.invariant-of-self
-invariant-of-self c =
+pub invariant_of-self : goal.invariant_of-self
+invariant_of-self c =
     let f : List ℕ = c.args.self.now.image.items in
     let t : ℕ = c.args.track in
-    let same = lent c.args.self.now.image.len c.lay-stored.new.file f c.as-mut-slice.result.now c.lay-stored.auto.file c.as-mut-slice.ensures.len in
-    let a = accepted c.args.self.now.protected f t c.args.start c.args.count (length c.args.bytes.now) c.bits-on-size.result c.bits-on-size.ensures c.in-ok-lay-check.ensures in (
-      subst Bytes (sym same) c.lay-stored.ensures.small,
-      (c.args.self.now.known ∙ (is_given f t a.has).sound_file ∙ sym (ap valid same ∙ c.lay-stored.ensures.valid), tt),
+    let same = lent c.args.self.now.image.len c.lay_stored.new.file f c.as_mut_slice.result.now c.lay_stored.auto.file c.as_mut_slice.ensures.len in
+    let a = accepted c.args.self.now.protected f t c.args.start c.args.count (length c.args.bytes.now) c.bits_on-size.result c.bits_on-size.ensures c.in_ok-lay_check.ensures in (
+      subst Bytes (sym same) c.lay_stored.ensures.small,
+      (c.args.self.now.known ∙ (is_given f t a.has).sound_file ∙ sym (ap valid same ∙ c.lay_stored.ensures.valid), tt),
     )
 
 pub returns : goal.returns
@@ -45,12 +45,12 @@ returns c =
     let n : ℕ = c.args.count in
     let bytes : List ℕ = c.args.bytes.now in
     let L : List Bool = take n (bits_of bytes) in
-    let same = lent c.args.self.now.image.len c.lay-stored.new.file f c.as-mut-slice.result.now c.lay-stored.auto.file c.as-mut-slice.ensures.len in
-    let a = accepted G f t p n (length bytes) c.bits-on-size.result c.bits-on-size.ensures c.in-ok-lay-check.ensures in
+    let same = lent c.args.self.now.image.len c.lay_stored.new.file f c.as_mut_slice.result.now c.lay_stored.auto.file c.as_mut_slice.ensures.len in
+    let a = accepted G f t p n (length bytes) c.bits_on-size.result c.bits_on-size.ensures c.in_ok-lay_check.ensures in
     record {
       answer = a.answer;
-      circle = λ u. ap (λ (x : List ℕ). circle_on x u) same ∙ c.lay-stored.ensures.circle u
-          ∙ ap (λ (x : List ℕ). cond (eqb u t) (laid_on p L (circle_on x u)) (circle_on x u)) c.as-mut-slice.ensures.value
+      circle = λ u. ap (λ (x : List ℕ). circle_on x u) same ∙ c.lay_stored.ensures.circle u
+          ∙ ap (λ (x : List ℕ). cond (eqb u t) (laid_on p L (circle_on x u)) (circle_on x u)) c.as_mut_slice.ensures.value
           ∙ lay_done G (circle_on f) t p n bytes a.answer u;
       protected = refl;
     }

@@ -5,5 +5,5 @@ use Rattle.track.proofs.window.Window.bit.Goals as goal
 
 pub returns : goal.returns
 returns c =
-    c.circle-bit.ensures
+    c.circle_bit.ensures
     ∙ sym (get_or-take c.args.self.now.count (turned c.args.self.now.first (circle_of c.args.self.now.bits c.args.self.now.track.now)) c.args.i false c.requires.within)
