@@ -1,6 +1,6 @@
 -- Where a search for a block stands: what was found, and the place of its data.
 use Rattle.std.proofs.Common.{◌≡◌, ℕ, zero, suc, ◌+◌, ◌-◌, ◌*◌, ◌<◌, ◌≤◌, Bool, true, false, cond, not, ◌&&◌, ◌||◌, eqb, ◌⊎◌, List, [], ◌∷◌, ◌++◌, length, Some, None, Option, sym, refl, ap, ◌∙◌, subst, inl, inr, arith}
-use Rattle.std.proofs.lemmas.Bool.{cond-true, cond-false, and_from, and_left, eq-eqb, false≢true, true≢false}
+use Rattle.std.proofs.lemmas.Bool.{cond-true, cond-false, and_from, and_left, and_right, ne_eqb, eq-eqb, false≢true, true≢false}
 use Rattle.track.specs.Circles.{turned, start, before, frames_from, frames}
 use Rattle.track.specs.Headers.{header, place_is, sound_head, unsound_head, byte_at}
 use Rattle.track.specs.Reading.{Sought, at, missing}
@@ -94,6 +94,13 @@ named_unsound t s o b p e x y h = (
   ap (unsound_head t s) e ∙ and_from (not b) (place_is t s p) (ap not h) (and_from (eqb p.0 t) (eqb p.1 s) (eq-eqb p.0 t x) (eq-eqb p.1 s y)),
 )
 
+pub named_other : (t s : ℕ) (o : Option (Bool × (ℕ × ℕ))) (b : Bool) (p : ℕ × ℕ) → o ≡ Some (b, p) → (p.0 ≡ t → ⊥) ⊎ ((p.0 ≡ t) × (p.1 ≡ s → ⊥)) → (sound_head t s o ≡ false) × (unsound_head t s o ≡ false)
+named_other t s o b p e n =
+    let q : place_is t s p ≡ false = elim n [ inl h ↦ and_left (eqb p.0 t) (eqb p.1 s) (ne_eqb p.0 t h) | inr h ↦ and_right (eqb p.0 t) (eqb p.1 s) (ne_eqb p.1 s h.1) ] in (
+      ap (sound_head t s) e ∙ and_right b (place_is t s p) q,
+      ap (unsound_head t s) e ∙ and_right (not b) (place_is t s p) q,
+    )
+
 pub scan_hit : (t s : ℕ) (first d f : List Bool) (found waits u : Bool) (gs fs : List (List Bool)) (r : Sought) → scan t s first found waits d u gs ≡ r → gs ≡ f ∷ fs → sound_head t s (header f) ≡ true
     → cond found (missing TwoHeaders) (scan t s first true true (cond waits f d) u fs) ≡ r
 scan_hit t s first d f found waits u gs fs r v e h =
@@ -109,6 +116,10 @@ scan_miss t s first d f found waits u gs fs r v e h =
 pub or_true : (u v : Bool) → v ≡ true → (u || v) ≡ true
 or_true true v e = refl
 or_true false v e = e
+
+pub or_none : (u v : Bool) → v ≡ false → (u || v) ≡ u
+or_none true v e = refl
+or_none false v e = e
 
 pub where_known : (c : List Bool) (t s : ℕ) (ps : List (List Bool)) (found waiting : Bool) (p : ℕ) → found ≡ true → waiting ≡ false → Where c t s ps found waiting p → Placed c t s p
 where_known c t s ps false waiting p f g h = absurd (false≢true f)

@@ -8,7 +8,7 @@ use Rattle.track.specs.Headers.{header, sound_head, unsound_head}
 use Rattle.track.specs.Reading.{missing, at, sought}
 use Rattle.track.specs.Places.{last_or, data_place}
 use Rattle.track.proofs.Seeks.{scan, scan_start}
-use Rattle.track.proofs.Finds.{Placed, Moved, moved_waits, moved_shown, moved_where, where_found, named_sound, named_unsound, scan_hit, scan_miss, or_true, where_known, where_last, place_round, all_passed}
+use Rattle.track.proofs.Finds.{Placed, Moved, moved_waits, moved_shown, moved_where, where_found, named_sound, named_unsound, named_other, scan_hit, scan_miss, or_true, or_none, where_known, where_last, place_round, all_passed}
 use Rattle.track.proofs.block.find.Goals as goal
 use Rattle.track.proofs.block.find.Goals.{then-waiting, else-waiting, then-waiting-2, else-waiting-2}
 use Rattle.disk.specs.declared.cause.Cause.TheVariants.{TwoHeaders}
@@ -17,9 +17,9 @@ pub loop-window-init : goal.loop-window-init
 loop-window-init c =
     let e = c.in-Some.ensures in (
       e.fine,
-      scan_start c.args.wanted.0 c.args.wanted.1 (shown c.in-Some.first) (rest c.next.new.self) (rest c.new_frames.result) _
-          (c.new_frames.ensures.rest ∙ sym c.new-all.ensures.rest ∙ e.shows) (sym c.new-all.ensures.rest ∙ e.shows),
-      c.new_frames.ensures.whole,
+      scan_start c.args.wanted.0 c.args.wanted.1 (shown c.in-Some.first) (rest c.next.new.self) (rest c.new-frames.result) _
+          (c.new-frames.ensures.rest ∙ sym c.new-all.ensures.rest ∙ e.shows) (sym c.new-all.ensures.rest ∙ e.shows),
+      c.new-frames.ensures.whole,
       tt,
     )
 
@@ -41,9 +41,22 @@ loop-window-preserved-then-place-wanted c =
     elim c.if-waiting.branch [ then-waiting w ↦ inl (w.if-waiting.true, w.waiting-is, w.data-is) | else-waiting w ↦ inr (w.if-waiting.false, w.waiting-is, w.data-is) ] in
     let W = moved_where (circle_of c.args.bits c.args.track.now) c.args.wanted.0 c.args.wanted.1 c.loop-window.frames c.next-in-loop-window.new.self
     c.in-Some-next.window c.loop-window.data c.if-waiting.data c.loop-window.found c.loop-window.waiting c.if-waiting.waiting c.loop-window.invariant.2 e M c.loop-window.invariant.3 in
-    let r = e.shows in
-    let f = e.fine in
-    (search rules, search rules, e.stays ∙ c.loop-window.invariant.2, W)
+    let sd = moved_shown c.in-Some-next.window c.loop-window.data c.if-waiting.data c.loop-window.waiting c.if-waiting.waiting M in
+    let t : ℕ = c.args.wanted.0 in
+    let s : ℕ = c.args.wanted.1 in
+    let hd : header (shown c.in-Some-next.window) ≡ Some (c.in-Some-header.sound, c.in-Some-header.place) = sym c.header.ensures ∙ c.in-Some-header.is in
+    let wf : false ≡ c.if-waiting.waiting = sym (moved_waits c.in-Some-next.window c.loop-window.data c.if-waiting.data c.loop-window.waiting c.if-waiting.waiting M) in
+    let no = named_other t s (header (shown c.in-Some-next.window)) c.in-Some-header.sound c.in-Some-header.place hd c.then-place-wanted.either in
+    let v = scan_miss t s (shown c.in-Some.first) (shown c.loop-window.data) (shown c.in-Some-next.window) c.loop-window.found c.loop-window.waiting c.loop-window.unsound (rest c.loop-window.frames) (rest c.next-in-loop-window.new.self) _ c.loop-window.invariant.1 e.shows no.0 in
+    let f = e.fine in (
+      search rules,
+      ap (λ (x : List Bool). scan t s (shown c.in-Some.first) c.loop-window.found c.if-waiting.waiting x c.loop-window.unsound (rest c.next-in-loop-window.new.self)) sd
+          ∙ ap (λ (b : Bool). scan t s (shown c.in-Some.first) c.loop-window.found b (cond c.loop-window.waiting (shown c.in-Some-next.window) (shown c.loop-window.data)) c.loop-window.unsound (rest c.next-in-loop-window.new.self)) (sym wf)
+          ∙ ap (λ (b : Bool). scan t s (shown c.in-Some.first) c.loop-window.found false (cond c.loop-window.waiting (shown c.in-Some-next.window) (shown c.loop-window.data)) b (rest c.next-in-loop-window.new.self)) (sym (or_none c.loop-window.unsound (unsound_head t s (header (shown c.in-Some-next.window))) no.1))
+          ∙ v,
+      e.stays ∙ c.loop-window.invariant.2,
+      W,
+    )
 
 pub loop-window-preserved-then-not-sound : goal.loop-window-preserved-then-not-sound
 loop-window-preserved-then-not-sound c =
