@@ -1,15 +1,15 @@
 -- The blocks of an image are blocks.
-use Rattle.std.specs.Prelude.{◌≡◌, ℕ, ◌+◌, ◌-◌, ◌*◌, ◌<◌, ◌≤◌, Bool, true, false, cond, List, length, take, drop, ◌==◌}
+use Rattle.std.specs.Prelude.{◌≡◌, ℕ, ◌+◌, ◌≤◌, Bool, true, false, cond, List, length, take, drop, ◌==◌}
 use Rattle.std.proofs.Common.{arith}
 use Rattle.std.proofs.Math.Path.{refl}
 use Rattle.std.proofs.lemmas.Bool.{eqb-true}
 use Rattle.std.proofs.lemmas.List.{length-take-le, length-drop}
 use Rattle.disk.specs.declared.cause.Cause.TheVariants.{NoHeader, NoSuchBlock}
-use Rattle.disk.specs.Geometry.{Place, legal, index_of}
+use Rattle.disk.specs.Geometry.{Place, legal}
 use Rattle.disk.proofs.Places.{index_within}
 use Rattle.disk.specs.Bytes.{Bytes}
 use Rattle.disk.proofs.ByteLists.{take_bytes, drop_bytes}
-use Rattle.sector.specs.Source.{Whole, Reading, bytes, fault}
+use Rattle.sector.specs.Source.{Whole, bytes, fault}
 use Rattle.d64.specs.Image.{offset_of, block_at}
 
 module _ (xs : List ℕ) (small : Bytes xs) where

@@ -1,5 +1,5 @@
 -- The blocks of a D64 image, in place order, and which of them may be written.
-use Rattle.std.specs.Prelude.{ℕ, ◌*◌, Bool, true, false, cond, List, length, take, drop, Ok, Err, Result, ◌==◌}
+use Rattle.std.specs.Prelude.{ℕ, ◌*◌, Bool, cond, List, length, take, drop, Ok, Err, Result, ◌==◌}
 use Rattle.disk.specs.declared.cause.Cause.TheVariants.{NoHeader, NoSuchBlock, Protected, BadImage}
 use Rattle.disk.specs.declared.refusal.Refusal.{Refusal}
 use Rattle.disk.specs.Geometry.{Place, legal, index_of}

@@ -1,11 +1,11 @@
 -- One more block of a survey.
-use Rattle.std.proofs.Common.{◌≡◌, ℕ, zero, suc, ◌+◌, ◌<◌, ◌≤◌, List, [], ◌∷◌, ◌++◌, length, get_or, drop, set, Some, None, Option, sym, refl, ap, ◌∙◌, arith}
+use Rattle.std.proofs.Common.{◌≡◌, ℕ, zero, suc, ◌+◌, ◌<◌, List, [], ◌∷◌, ◌++◌, length, get_or, drop, set, Some, Option, sym, refl, ap, ◌∙◌, arith}
 use Rattle.std.proofs.lemmas.List.{append_assoc, drop_more, set_at, length_push}
 use Rattle.disk.specs.Geometry.{Place, track_at, sector_at, placed_at}
 use Rattle.disk.proofs.Places.{filled_at}
-use Rattle.sector.specs.Source.{Disk, loaded}
+use Rattle.sector.specs.Source.{Disk}
 use Rattle.tables.specs.declared.survey.Finding.{Finding}
-use Rattle.tables.specs.Surveys.{found, found_at, found_first}
+use Rattle.tables.specs.Surveys.{found_at, found_first}
 
 -- the block of a number is the one that is looked at
 pub place_is : (n : ℕ) (o : Option Place) (p : Place) → n < 683 → o ≡ placed_at n → o ≡ Some p → p ≡ (track_at n, sector_at n)

@@ -1,9 +1,9 @@
 -- How each block of a disk reads.
-use Rattle.std.specs.Prelude.{ℕ, zero, suc, ◌+◌, Bool, cond, List, [], ◌∷◌, ◌++◌, length, drop, Ok, Err, Result, nat_lt}
+use Rattle.std.specs.Prelude.{ℕ, zero, suc, cond, List, [], ◌∷◌, ◌++◌, length, drop, Ok, Err, Result, nat_lt}
 use Rattle.disk.specs.declared.refusal.Refusal.{Refusal}
 use Rattle.disk.specs.Causes.{number_of}
 use Rattle.disk.specs.Layers.{layer_number}
-use Rattle.disk.specs.Geometry.{Place, track_at, sector_at}
+use Rattle.disk.specs.Geometry.{track_at, sector_at}
 use Rattle.sector.specs.Source.{Disk, loaded}
 use Rattle.tables.specs.declared.survey.Finding.{Finding}
 

@@ -1,5 +1,5 @@
 -- A block table: one entry for each block, in place order, and perhaps more that no call sees.
-use Rattle.std.specs.Prelude.{◌≡◌, ℕ, Bool, cond, List, ◌++◌, length, drop, replicate, Ok, Err, Result, nat_lt, slice_index_or, slice_set}
+use Rattle.std.specs.Prelude.{◌≡◌, ℕ, cond, List, ◌++◌, length, drop, replicate, Ok, Err, Result, nat_lt, slice_index_or, slice_set}
 use Rattle.disk.specs.declared.cause.Cause.TheVariants.{NoSuchBlock, ShortBuffer}
 use Rattle.disk.specs.declared.layer.Layer.TheVariants.{Sector}
 use Rattle.disk.specs.declared.refusal.Refusal.{Refusal}

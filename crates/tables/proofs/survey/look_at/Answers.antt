@@ -1,4 +1,4 @@
-use Rattle.std.proofs.Common.{◌≡◌, is_some, Ok, Err, sym, refl, ap, ◌∙◌, rules}
+use Rattle.std.proofs.Common.{is_some, ap, ◌∙◌}
 use Rattle.disk.proofs.Places.{filled_at}
 use Rattle.sector.specs.Source.{loaded}
 use Rattle.tables.specs.Surveys.{found, found_at}
