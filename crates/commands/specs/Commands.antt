@@ -1,5 +1,5 @@
 -- Which command the words ask for, and what is shown of words that ask for none.
-use Rattle.std.specs.Prelude.{◌≡◌, ℕ, cond, List, [], ◌∷◌, ◌++◌, map, length, Some, None, Ok, Err, vec_items, string_bytes, codes, Option, Result, String, ◌==◌, slice_index_or}
+use Rattle.std.specs.Prelude.{◌≡◌, ℕ, cond, List, [], ◌++◌, map, length, Some, None, Ok, Err, vec_items, string_bytes, codes, Option, Result, String, ◌==◌, slice_index_or}
 use Rattle.commands.specs.declared.verb.Verb.{Verb}
 use Rattle.commands.specs.declared.verb.Verb.TheVariants as verbs
 use Rattle.commands.specs.declared.command.Command.{Command}

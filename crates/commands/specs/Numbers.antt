@@ -1,5 +1,5 @@
 -- The number that a text of decimal digits writes.
-use Rattle.std.specs.Prelude.{ℕ, ◌+◌, ◌-◌, ◌*◌, Bool, cond, ◌&&◌, List, [], ◌∷◌, length, Some, None, Option, nat_lt}
+use Rattle.std.specs.Prelude.{ℕ, ◌+◌, ◌-◌, ◌*◌, cond, ◌&&◌, List, [], ◌∷◌, length, Some, None, Option, nat_lt}
 use Rattle.std.specs.Str.{all_ascii_digits}
 
 -- digits from the left, after the number so far

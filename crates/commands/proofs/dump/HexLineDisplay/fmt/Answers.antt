@@ -15,11 +15,11 @@ pub loop-more-preserved : goal.loop-more-preserved
 loop-more-preserved g c = λ plain.
     let before = c.loop-more.invariant plain in
     wrote_next g.W.Write.write_str_gives c.write.new.self c.loop-more.f c.write-in-loop-more.new.self next_byte (others c.args.self.now.0.now) c.loop-more.more-index 0 (omega arith) before
-    (c.in_ok-write-2.ensures.shows before.plain (refl {a = true}))
+    (c.in_ok-write-2.ensures.writes before.plain (refl {a = true}))
 
 pub returns-clause-writes : goal.returns-clause-writes
 returns-clause-writes g c = λ plain _.
     let some = false-eqb _ 0 c.if-is_empty.ensures in
-    let first = c.in_ok-write.ensures.shows plain (refl {a = true}) in
+    let first = c.in_ok-write.ensures.writes plain (refl {a = true}) in
     wrote_line g.W.Write.write_str_gives c.args.f.now c.write.new.self c.loop-more.f c.args.self.now.0.now c.loop-more.more-index (omega arith) (omega arith) first
     (c.loop-more.invariant first.plain)
