@@ -10,7 +10,7 @@ use Rattle.commands.specs.declared.command.CommandError.{CommandError}
 use Rattle.commands.specs.Names.{unescaped}
 use Rattle.commands.specs.Numbers.{byte_number}
 use Rattle.commands.specs.Verbs.{verb_of}
-use Rattle.commands.specs.Commands.{Asked, extract, block, put, survey, nothing, unknown, miscounted, texts, named, numbered, placed, counted, extract_of, block_of, put_of, survey_of, asked_by, asked, Reports}
+use Rattle.commands.specs.Commands.{Asked, extract, block, survey, nothing, unknown, miscounted, texts, named, numbered, placed, counted, extract_of, block_of, survey_of, asked_by, asked, Reports}
 
 pub length_texts : {Z : Type 0} (ws : List (String Z)) → length (texts ws) ≡ length ws
 unfolding texts
@@ -55,24 +55,15 @@ no_sector ws t s track e f g n h k =
     subst (λ (a : Asked). Reports e a) (sym (placed_tracked ws t track k f n))
     (subst (λ (x : List ℕ). Reports e (numbered x (byte_number x) (λ sector. k (track, sector)))) g (h (λ sector. k (track, sector))))
 
--- block and put, of as many words as they take
+-- block, of as many words as it takes
 block_placed : (ws : List (List ℕ)) → length ws ≡ 4 → block_of ws ≡ placed ws (λ p. block (get_or ws 1 []) p)
 block_placed ws l = counted_so verbs.Block 4 ws _ l
-
-put_placed : (ws : List (List ℕ)) → length ws ≡ 5 → put_of ws ≡ placed ws (λ p. put (get_or ws 1 []) p (get_or ws 4 []))
-put_placed ws l = counted_so verbs.Put 5 ws _ l
 
 pub block_misplaced : (ws : List (List ℕ)) (e : CommandError) → length ws ≡ 4 → ((k : ℕ × ℕ → Asked) → Reports e (placed ws k)) → Reports e (block_of ws)
 block_misplaced ws e l h = subst (λ (a : Asked). Reports e a) (sym (block_placed ws l)) (h (λ p. block (get_or ws 1 []) p))
 
-pub put_misplaced : (ws : List (List ℕ)) (e : CommandError) → length ws ≡ 5 → ((k : ℕ × ℕ → Asked) → Reports e (placed ws k)) → Reports e (put_of ws)
-put_misplaced ws e l h = subst (λ (a : Asked). Reports e a) (sym (put_placed ws l)) (h (λ p. put (get_or ws 1 []) p (get_or ws 4 [])))
-
 pub block_so : (ws : List (List ℕ)) (image : List ℕ) (p : ℕ × ℕ) → length ws ≡ 4 → image ≡ get_or ws 1 [] → ((k : ℕ × ℕ → Asked) → placed ws k ≡ k p) → block_of ws ≡ block image p
 block_so ws image p l e h = block_placed ws l ∙ h (λ q. block (get_or ws 1 []) q) ∙ ap (λ (x : List ℕ). block x p) (sym e)
-
-pub put_so : (ws : List (List ℕ)) (image file : List ℕ) (p : ℕ × ℕ) → length ws ≡ 5 → image ≡ get_or ws 1 [] → file ≡ get_or ws 4 [] → ((k : ℕ × ℕ → Asked) → placed ws k ≡ k p) → put_of ws ≡ put image p file
-put_so ws image file p l e f h = put_placed ws l ∙ h (λ q. put (get_or ws 1 []) q (get_or ws 4 [])) ∙ (λ i. put (sym e i) p (sym f i))
 
 pub survey_so : (ws : List (List ℕ)) (image : List ℕ) → length ws ≡ 2 → image ≡ get_or ws 1 [] → survey_of ws ≡ survey image
 survey_so ws image l e = counted_so verbs.Survey 2 ws _ l ∙ ap (λ (x : List ℕ). survey x) (sym e)
@@ -98,6 +89,6 @@ nothing_so ws e =
 other_text : (w t : List ℕ) → (w ≡ t → ⊥) → bytes_eq w t ≡ false
 other_text w t n = elim (cases_Bool (bytes_eq w t)) [ inl e ↦ absurd (n ((bytes_eq-Decides w t).0 e)) | inr e ↦ e ]
 
-pub no_verb : (w : List ℕ) → (w ≡ codes "extract" → ⊥) → (w ≡ codes "block" → ⊥) → (w ≡ codes "put" → ⊥) → (w ≡ codes "survey" → ⊥) → (w ≡ codes "--help" → ⊥) → None ≡ verb_of w
+pub no_verb : (w : List ℕ) → (w ≡ codes "extract" → ⊥) → (w ≡ codes "block" → ⊥) → (w ≡ codes "survey" → ⊥) → (w ≡ codes "--help" → ⊥) → None ≡ verb_of w
 unfolding verb_of
-no_verb w x b p s h = rw (other_text w _ x, other_text w _ b, other_text w _ p, other_text w _ s, other_text w _ h)
+no_verb w x b s h = rw (other_text w _ x, other_text w _ b, other_text w _ s, other_text w _ h)

@@ -3,7 +3,7 @@ use Rattle.std.specs.Prelude.{◌≡◌, ℕ, cond, List, [], ◌++◌, map, len
 use Rattle.commands.specs.declared.verb.Verb.{Verb}
 use Rattle.commands.specs.declared.verb.Verb.TheVariants as verbs
 use Rattle.commands.specs.declared.command.Command.{Command}
-use Rattle.commands.specs.declared.command.Command.TheVariants.{Extract, Block, Put, Survey, Help}
+use Rattle.commands.specs.declared.command.Command.TheVariants.{Extract, Block, Survey, Help}
 use Rattle.commands.specs.declared.command.CommandError.{CommandError}
 use Rattle.commands.specs.declared.command.CommandError.TheVariants.{NoMemory, NoCommand, UnknownCommand, WrongCount, BadNumber, BadName}
 use Rattle.commands.specs.Names.{unescaped}
@@ -14,7 +14,6 @@ use Rattle.commands.specs.Verbs.{verb_of, usage_of}
 pub data Asked : Type 0 where
   extract : List ℕ → List ℕ → List ℕ → List ℕ → Asked
   block : List ℕ → ℕ × ℕ → Asked
-  put : List ℕ → ℕ × ℕ → List ℕ → Asked
   survey : List ℕ → Asked
   help : Asked
   nothing : Asked
@@ -49,11 +48,9 @@ extract_of ws = counted verbs.Extract 4 ws (named (slice_index_or ws 2 []) (unes
 
 -- block IMAGE TRACK SECTOR
 abbrev pub block_of : List (List ℕ) → Asked
-block_of ws = counted verbs.Block 4 ws (placed ws (λ p. block (slice_index_or ws 1 []) p))
-
--- put IMAGE TRACK SECTOR FILE
-abbrev pub put_of : List (List ℕ) → Asked
-put_of ws = counted verbs.Put 5 ws (placed ws (λ p. put (slice_index_or ws 1 []) p (slice_index_or ws 4 [])))
+block_of ws =
+    counted verbs.Block 4 ws
+    (numbered (slice_index_or ws 2 []) (byte_number (slice_index_or ws 2 [])) (λ track. numbered (slice_index_or ws 3 []) (byte_number (slice_index_or ws 3 [])) (λ sector. block (slice_index_or ws 1 []) (track, sector))))
 
 -- survey IMAGE
 abbrev pub survey_of : List (List ℕ) → Asked
@@ -67,7 +64,6 @@ abbrev pub asked_by : Option Verb → List (List ℕ) → Asked
 asked_by None ws = unknown (slice_index_or ws 0 [])
 asked_by (Some verbs.Extract) ws = extract_of ws
 asked_by (Some verbs.Block) ws = block_of ws
-asked_by (Some verbs.Put) ws = put_of ws
 asked_by (Some verbs.Survey) ws = survey_of ws
 asked_by (Some verbs.Help) ws = help_of ws
 
@@ -79,7 +75,6 @@ asked ws = cond (length ws == 0) nothing (asked_by (verb_of (slice_index_or ws 0
 abbrev pub NeedsMemory : Asked → Type 0
 NeedsMemory (extract image text name out) = Unit {0}
 NeedsMemory (block image place) = ⊥
-NeedsMemory (put image place file) = ⊥
 NeedsMemory (survey image) = ⊥
 NeedsMemory help = ⊥
 NeedsMemory nothing = ⊥
@@ -100,7 +95,6 @@ Reports (BadName w) a = a ≡ no_name w.now
 abbrev pub Answers : Result Command CommandError → Asked → Type 0
 Answers (Ok (Extract image name out)) a = a ≡ extract image.now name.text.now (vec_items name.bytes) out.now
 Answers (Ok (Block image place)) a = a ≡ block image.now place
-Answers (Ok (Put image place file)) a = a ≡ put image.now place file.now
 Answers (Ok (Survey image)) a = a ≡ survey image.now
 Answers (Ok Help) a = a ≡ help
 Answers (Err e) a = Reports e a

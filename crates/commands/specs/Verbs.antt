@@ -3,20 +3,18 @@ use Rattle.std.specs.Prelude.{ℕ, cond, List, [], ◌∷◌, ◌++◌, Some, No
 use Rattle.std.specs.List.{flat_map}
 use Rattle.std.specs.Str.{bytes_eq}
 use Rattle.commands.specs.declared.verb.Verb.{Verb}
-use Rattle.commands.specs.declared.verb.Verb.TheVariants.{Extract, Block, Put, Survey, Help}
+use Rattle.commands.specs.declared.verb.Verb.TheVariants.{Extract, Block, Survey, Help}
 
 unfoldable pub verb_of : List ℕ → Option Verb
 verb_of w =
     cond (bytes_eq w (codes "extract")) (Some Extract)
     (cond (bytes_eq w (codes "block")) (Some Block)
-    (cond (bytes_eq w (codes "put")) (Some Put)
     (cond (bytes_eq w (codes "survey")) (Some Survey)
-    (cond (bytes_eq w (codes "--help")) (Some Help) None))))
+    (cond (bytes_eq w (codes "--help")) (Some Help) None)))
 
 abbrev pub usage_of : Verb → List ℕ
 usage_of Extract = codes "extract IMAGE NAME OUT"
 usage_of Block = codes "block IMAGE TRACK SECTOR"
-usage_of Put = codes "put IMAGE TRACK SECTOR FILE"
 usage_of Survey = codes "survey IMAGE"
 usage_of Help = codes "--help"
 
@@ -25,7 +23,7 @@ abbrev pub usage_line : Verb → List ℕ
 usage_line v = (10 ∷ codes "  namohike ") ++ usage_of v
 
 abbrev pub verbs : List Verb
-verbs = Extract ∷ Block ∷ Put ∷ Survey ∷ Help ∷ []
+verbs = Extract ∷ Block ∷ Survey ∷ Help ∷ []
 
 -- 92 is the backslash
 abbrev pub usage_note : List ℕ

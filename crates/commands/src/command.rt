@@ -2,7 +2,7 @@
 ghost use Rattle.std.specs.Prelude.{◌≡◌, ℕ, List, [], Some, MatchResult, slice_index_or};
 ghost use Rattle.commands.specs.Names.{unescaped};
 ghost use Rattle.commands.specs.Numbers.{byte_number};
-ghost use Rattle.commands.specs.Commands.{Asked, texts, named, numbered, placed, extract_of, block_of, put_of, survey_of, help_of, asked, NeedsMemory, Reports, Answers, error_shown};
+ghost use Rattle.commands.specs.Commands.{Asked, texts, named, numbered, placed, extract_of, block_of, survey_of, help_of, asked, NeedsMemory, Reports, Answers, error_shown};
 
 use crate::name::*;
 use crate::number::*;
@@ -28,11 +28,6 @@ pub enum Command<'a> {
     Block {
         image: &'a str,
         place: Place,
-    },
-    Put {
-        image: &'a str,
-        place: Place,
-        file: &'a str,
     },
     Survey {
         image: &'a str,
@@ -117,20 +112,6 @@ fn block(words: &[String]) -> Result<Command<'_>, CommandError<'_>>
     })
 }
 
-fn put(words: &[String]) -> Result<Command<'_>, CommandError<'_>>
-    ensures { Answers result (put_of (texts words.now)) }
-{
-    if words.len() != 5 {
-        return Err(CommandError::WrongCount(Verb::Put));
-    }
-    let place = place_at(words)?;
-    Ok(Command::Put {
-        image: word_at(words, 1),
-        place,
-        file: word_at(words, 4),
-    })
-}
-
 fn survey(words: &[String]) -> Result<Command<'_>, CommandError<'_>>
     ensures { Answers result (survey_of (texts words.now)) }
 {
@@ -165,7 +146,6 @@ pub fn parse(heap: Global, words: &[String]) -> Result<Command<'_>, CommandError
     match verb {
         Verb::Extract => extract(heap, words),
         Verb::Block => block(words),
-        Verb::Put => put(words),
         Verb::Survey => survey(words),
         Verb::Help => help(words),
     }

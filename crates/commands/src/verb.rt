@@ -9,19 +9,12 @@ use std::fmt;
 pub enum Verb {
     Extract,
     Block,
-    Put,
     Survey,
     Help,
 }
 
 impl Verb {
-    pub const ALL: [Verb; 5] = [
-        Verb::Extract,
-        Verb::Block,
-        Verb::Put,
-        Verb::Survey,
-        Verb::Help,
-    ];
+    pub const ALL: [Verb; 4] = [Verb::Extract, Verb::Block, Verb::Survey, Verb::Help];
 
     pub fn of(word: &str) -> Option<Verb>
         ensures { result ≡ verb_of word.now }
@@ -29,7 +22,6 @@ impl Verb {
         match word {
             "extract" => Some(Verb::Extract),
             "block" => Some(Verb::Block),
-            "put" => Some(Verb::Put),
             "survey" => Some(Verb::Survey),
             "--help" => Some(Verb::Help),
             _ => None,
@@ -43,7 +35,6 @@ impl Verb {
         match self {
             Verb::Extract => "extract IMAGE NAME OUT",
             Verb::Block => "block IMAGE TRACK SECTOR",
-            Verb::Put => "put IMAGE TRACK SECTOR FILE",
             Verb::Survey => "survey IMAGE",
             Verb::Help => "--help",
         }

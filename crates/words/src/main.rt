@@ -31,10 +31,6 @@ fn tell(rt: &HostRuntime, command: Command<'_>) -> anyhow::Result<()> {
             let (track, sector) = place;
             println!(rt; "  image [{image}] track {track} sector {sector}")?;
         }
-        Command::Put { image, place, file } => {
-            let (track, sector) = place;
-            println!(rt; "  image [{image}] track {track} sector {sector} file [{file}]")?;
-        }
         Command::Survey { image } => println!(rt; "  image [{image}]")?,
         Command::Help => println!(rt; "  {}", Usage)?,
     }

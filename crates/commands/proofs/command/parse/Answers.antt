@@ -21,12 +21,6 @@ returns-in-Block c =
     (verb_so c.args.words.now c.word_at-word.result.now _ _ c.if-is_empty.ensures c.word_at-word.ensures c.in-Some.ensures c.in-Block.is)
     c.block.ensures
 
-pub returns-in-Put : goal.returns-in-Put
-returns-in-Put c =
-    subst (λ (a : Asked). Answers c.put.result a)
-    (verb_so c.args.words.now c.word_at-word.result.now _ _ c.if-is_empty.ensures c.word_at-word.ensures c.in-Some.ensures c.in-Put.is)
-    c.put.ensures
-
 pub returns-in-Survey : goal.returns-in-Survey
 returns-in-Survey c =
     subst (λ (a : Asked). Answers c.survey.result a)

@@ -12,10 +12,6 @@ pub returns-in-block : goal.returns-in-block
 unfolding verb_of
 returns-in-block c = sym (ap verb_of c.in-block.is)
 
-pub returns-in-put : goal.returns-in-put
-unfolding verb_of
-returns-in-put c = sym (ap verb_of c.in-put.is)
-
 pub returns-in-survey : goal.returns-in-survey
 unfolding verb_of
 returns-in-survey c = sym (ap verb_of c.in-survey.is)
@@ -25,4 +21,4 @@ unfolding verb_of
 returns-in-text c = sym (ap verb_of c.in-text.is)
 
 pub returns-in_default : goal.returns-in_default
-returns-in_default c = no_verb c.args.word.now c.in_default.not-extract c.in_default.not-block c.in_default.not-put c.in_default.not-survey c.in_default.not-text
+returns-in_default c = no_verb c.args.word.now c.in_default.not-extract c.in_default.not-block c.in_default.not-survey c.in_default.not-text

@@ -9,8 +9,5 @@ returns-in-Extract c = sym (ap usage_of c.in-Extract.is)
 pub returns-in-Block : goal.returns-in-Block
 returns-in-Block c = sym (ap usage_of c.in-Block.is)
 
-pub returns-in-Put : goal.returns-in-Put
-returns-in-Put c = sym (ap usage_of c.in-Put.is)
-
 pub returns-in-Survey : goal.returns-in-Survey
 returns-in-Survey c = sym (ap usage_of c.in-Survey.is)
