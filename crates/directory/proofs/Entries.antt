@@ -1,5 +1,5 @@
 -- A filled slot is tested by its name.
-use Rattle.std.proofs.Common.{◌≡◌, ℕ, Bool, true, false, ◌&&◌, List, Decides, sym, refl, ap, ◌∙◌}
+use Rattle.std.proofs.Common.{◌≡◌, ℕ, Bool, true, List, Decides, sym, refl, ap, ◌∙◌}
 use Rattle.std.specs.Str.{bytes_eq}
 use Rattle.disk.proofs.Compared.{tested}
 use Rattle.directory.specs.declared.entry.Entry.{Entry}

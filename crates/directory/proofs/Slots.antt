@@ -1,5 +1,5 @@
 -- One step of a search for a slot.
-use Rattle.std.proofs.Common.{◌≡◌, ℕ, zero, suc, ◌+◌, ◌-◌, ◌<◌, ◌≤◌, Bool, true, false, cond, Some, None, Option, sym, refl, ap, ◌∙◌, arith}
+use Rattle.std.proofs.Common.{◌≡◌, ℕ, suc, ◌+◌, ◌-◌, ◌<◌, ◌≤◌, Bool, cond, Some, None, ap, arith}
 use Rattle.directory.specs.Entries.{first_slot}
 
 pub slot_more : (test : ℕ → Bool) (n k : ℕ) → k < n → first_slot test (n - k) k ≡ cond (test k) (Some k) (first_slot test (n - (k + 1)) (k + 1))

@@ -1,4 +1,4 @@
-use Rattle.std.proofs.Common.{◌≡◌, true, false, get_or, sym, refl, ◌∙◌, arith}
+use Rattle.std.proofs.Common.{◌≡◌, true, false, get_or, sym, ◌∙◌, arith}
 use Rattle.directory.specs.Names.{barred}
 use Rattle.directory.proofs.Names.{clean_more, clean_end}
 use Rattle.directory.proofs.name.is_clean.Goals as goal
