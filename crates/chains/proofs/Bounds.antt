@@ -1,6 +1,5 @@
 -- The bound on the number of blocks cuts no route short.
-use Rattle.std.proofs.Common.{◌≡◌, ℕ, zero, suc, ◌+◌, ◌-◌, ◌<◌, ◌≤◌, Bool, true, false, cond, List, [], ◌∷◌, ◌++◌, length, Ok, Err, Result, sym, refl, ap, ◌∙◌, subst, inl, inr, arith}
-use Rattle.std.proofs.lemmas.Bool.{cases_Bool}
+use Rattle.std.proofs.Common.{◌≡◌, ℕ, zero, suc, ◌+◌, ◌≤◌, Bool, true, false, List, [], ◌∷◌, ◌++◌, length, Ok, Err, Result, refl, ap, ◌∙◌, arith}
 use Rattle.std.proofs.lemmas.List.{length_push}
 use Rattle.disk.specs.declared.cause.Cause.TheVariants.{BadStructure}
 use Rattle.disk.specs.declared.refusal.Refusal.{Refusal}
@@ -12,7 +11,7 @@ use Rattle.chains.specs.declared.route.Route.TheVariants.{File, Directory, Searc
 use Rattle.chains.specs.declared.route.Link.{Link}
 use Rattle.chains.specs.declared.route.Link.TheVariants.{Stop, Next}
 use Rattle.chains.specs.Sets.{among}
-use Rattle.chains.specs.Chains.{on_route, stray, visited, link_of, Followed, led, chain_from, chain_of, most}
+use Rattle.chains.specs.Chains.{on_route, visited, link_of, led, chain_from, most}
 use Rattle.chains.specs.Laws.{BoundEnough}
 use Rattle.chains.proofs.Chains.{visited_on_route}
 use Rattle.chains.proofs.Counts.{room, Counted, counted_none, counted_more, few}

@@ -1,17 +1,16 @@
 -- One step along a chain.
-use Rattle.std.proofs.Common.{◌≡◌, ℕ, zero, suc, ◌+◌, ◌-◌, ◌<◌, ◌≤◌, Bool, true, false, cond, not, ◌&&◌, List, [], ◌∷◌, ◌++◌, length, get_or, take, set, Ok, Err, Result, sym, refl, ap, ◌∙◌, subst, inl, inr, arith}
+use Rattle.std.proofs.Common.{◌≡◌, ℕ, suc, ◌+◌, ◌-◌, ◌<◌, ◌≤◌, Bool, true, List, [], ◌∷◌, ◌++◌, length, take, set, Ok, Err, Result, sym, ap, ◌∙◌, inl, inr, arith}
 use Rattle.std.proofs.lemmas.List.{take_more_set}
 use Rattle.std.proofs.lemmas.Bool.{cases_Bool, and_parts}
 use Rattle.disk.specs.declared.cause.Cause.TheVariants.{BadStructure}
 use Rattle.disk.specs.declared.refusal.Refusal.{Refusal}
 use Rattle.disk.specs.Geometry.{Place, legal}
 use Rattle.disk.specs.Refusals.{by_volume}
-use Rattle.sector.specs.Source.{Disk, loaded, and_then}
+use Rattle.sector.specs.Source.{Disk, and_then}
 use Rattle.chains.specs.declared.route.Route.{Route}
-use Rattle.chains.specs.declared.route.Link.{Link}
 use Rattle.chains.specs.declared.route.Link.TheVariants.{Stop, Next}
 use Rattle.chains.specs.Sets.{among, holds, with_place}
-use Rattle.chains.specs.Chains.{of_route, on_route, stray, visited, link_of, Followed, led, chain_from}
+use Rattle.chains.specs.Chains.{of_route, on_route, visited, link_of, Followed, led, chain_from}
 use Rattle.chains.proofs.Sets.{Marks, marks_more}
 
 -- a refusal is no answer

@@ -1,14 +1,13 @@
 -- How many blocks a route can have.
-use Rattle.std.proofs.Common.{◌≡◌, ℕ, zero, suc, ◌+◌, ◌-◌, ◌*◌, ◌<◌, ◌≤◌, Bool, true, false, cond, not, ◌&&◌, ◌||◌, eqb, ltb, List, [], ◌∷◌, ◌++◌, length, sym, refl, ap, ◌∙◌, subst, inl, inr, add-one, arith}
+use Rattle.std.proofs.Common.{◌≡◌, ℕ, zero, suc, ◌+◌, ◌-◌, ◌<◌, ◌≤◌, Bool, true, false, cond, ◌||◌, ltb, List, [], ◌∷◌, ◌++◌, length, sym, refl, ap, ◌∙◌, inl, inr, add-one, arith}
 use Rattle.std.proofs.lemmas.Bool.Decides.{nat_tests, eqb_tells}
-use Rattle.std.proofs.lemmas.Bool.{cases_Bool, and_parts, and_from, lt-ltb, ne_eqb, not-true, eqb-false, eq-eqb, eqb-true, both_ways}
+use Rattle.std.proofs.lemmas.Bool.{cases_Bool}
 use Rattle.std.proofs.lemmas.List.{length_push}
-use Rattle.disk.specs.Geometry.{Place, legal, index_of, track_at, sector_at, sectors_on, same_place}
-use Rattle.disk.proofs.Places.{index_within, place_same, legal_at, index_at}
+use Rattle.disk.specs.Geometry.{Place, legal, index_of, track_at, sector_at, same_place}
 use Rattle.chains.specs.declared.route.Route.{Route}
 use Rattle.chains.specs.declared.route.Route.TheVariants.{File, Directory, Search}
 use Rattle.chains.specs.Sets.{among}
-use Rattle.chains.specs.Chains.{of_route, on_route}
+use Rattle.chains.specs.Chains.{on_route}
 use Rattle.chains.proofs.Sets.{or_false, same_refl, same_true, among_push}
 
 -- how many of the numbers below n pass

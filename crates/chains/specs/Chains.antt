@@ -1,5 +1,5 @@
 -- Following blocks from link to link.
-use Rattle.std.specs.Prelude.{ℕ, zero, suc, Bool, true, false, cond, not, ◌&&◌, List, [], ◌∷◌, ◌++◌, is_some, Ok, Err, Result, ◌==◌, slice_index}
+use Rattle.std.specs.Prelude.{ℕ, zero, suc, Bool, false, cond, not, ◌&&◌, List, [], ◌∷◌, ◌++◌, is_some, Ok, Err, Result, ◌==◌, slice_index}
 use Rattle.disk.specs.declared.cause.Cause.{Cause}
 use Rattle.disk.specs.declared.cause.Cause.TheVariants.{NoSuchBlock, BadStructure}
 use Rattle.disk.specs.declared.refusal.Refusal.{Refusal}

@@ -1,5 +1,5 @@
 -- Sets of blocks, as tests, and lists of places.
-use Rattle.std.specs.Prelude.{ℕ, Bool, true, false, ◌&&◌, ◌||◌, List, [], ◌∷◌, slice_index_or}
+use Rattle.std.specs.Prelude.{Bool, false, ◌&&◌, ◌||◌, List, [], ◌∷◌, slice_index_or}
 use Rattle.disk.specs.Geometry.{Place, same_place, legal, index_of}
 
 -- the place stands in the list
