@@ -1,19 +1,18 @@
 -- What is known of a file that was found, and of its bytes.
-use Rattle.std.proofs.Common.{◌≡◌, ℕ, ◌+◌, ◌-◌, ◌*◌, ◌<◌, ◌≤◌, Bool, true, false, cond, ltb, List, [], ◌∷◌, ◌++◌, length, get_or, take, drop, Ok, Err, Result, sym, refl, ap, ◌∙◌, subst, arith}
+use Rattle.std.proofs.Common.{◌≡◌, ℕ, ◌+◌, ◌-◌, ◌*◌, ◌<◌, ◌≤◌, List, [], ◌++◌, length, get_or, take, drop, Ok, Err, Result, sym, refl, ap, ◌∙◌, arith}
 use Rattle.std.proofs.lemmas.List.{length-take-le}
 use Rattle.std.proofs.lemmas.Bool.{lt-ltb, le-ltb}
 use Rattle.disk.specs.declared.cause.Cause.TheVariants.{ShortBuffer}
 use Rattle.disk.specs.declared.refusal.Refusal.{Refusal}
 use Rattle.disk.specs.Geometry.{Place}
 use Rattle.disk.specs.Refusals.{by_caller}
-use Rattle.sector.specs.Source.{Disk, Whole, loaded, and_then}
+use Rattle.sector.specs.Source.{Disk, Whole, and_then}
 use Rattle.chains.specs.declared.chain.Chain.{Chain}
 use Rattle.files.specs.declared.extract.Extent.{Extent}
-use Rattle.files.specs.declared.find.Located.{Located}
 use Rattle.chains.specs.declared.route.Route.TheVariants.{File}
-use Rattle.chains.specs.Chains.{Followed, chain_of}
+use Rattle.chains.specs.Chains.{Followed}
 use Rattle.files.specs.Found.{last_of, located, closed_at, file_chain}
-use Rattle.files.specs.Files.{all_data, size_of, bytes_of, extracted, measured, extract_answer, extract_buffer, Fills}
+use Rattle.files.specs.Files.{all_data, size_of, bytes_of, measured, extract_answer, extract_buffer, Fills}
 use Rattle.chains.proofs.Chains.{no_answer}
 use Rattle.files.proofs.Followed.{loaded_whole, Walked, chain_walked}
 use Rattle.files.proofs.Files.{all_length}

@@ -1,14 +1,12 @@
 -- The data of a chain's blocks, one after another, and a buffer that takes it up.
-use Rattle.std.proofs.Common.{◌≡◌, ℕ, zero, suc, ◌+◌, ◌-◌, ◌*◌, ◌<◌, ◌≤◌, min, List, [], ◌∷◌, ◌++◌, length, get_or, take, drop, Ok, Err, sym, refl, ap, ◌∙◌, subst, arith}
+use Rattle.std.proofs.Common.{◌≡◌, ℕ, zero, suc, ◌+◌, ◌-◌, ◌*◌, ◌<◌, ◌≤◌, min, List, [], ◌∷◌, ◌++◌, length, get_or, take, drop, Ok, sym, refl, ap, ◌∙◌, arith}
 use lib.Seq.{take-append-add}
 use Rattle.std.specs.List.{AllByRecursion as All}
 use Rattle.std.proofs.ByRecursion.{All-get_or}
 use Rattle.std.proofs.lemmas.List.{append_assoc, length-append, length-take-le, length-drop, drop-drop, drop_at, take_at, take-append-drop, take-append-le, at_drop_more}
 use Rattle.disk.specs.Geometry.{Place}
-use Rattle.disk.specs.Bytes.{Bytes}
 use Rattle.sector.specs.Source.{Disk, loaded}
-use Rattle.chains.specs.Chains.{Followed}
-use Rattle.files.specs.Files.{held, block_data, all_data, size_of, bytes_of, Readable}
+use Rattle.files.specs.Files.{held, block_data, all_data, Readable}
 
 take-add : (m n : ℕ) (xs : List ℕ) → m ≤ length xs → take (m + n) xs ≡ take m xs ++ take n (drop m xs)
 take-add m n xs h =

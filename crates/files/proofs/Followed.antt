@@ -1,13 +1,12 @@
 -- What is known of the blocks of a chain that was followed to its end.
-use Rattle.std.proofs.Common.{◌≡◌, ℕ, zero, suc, ◌+◌, ◌-◌, ◌<◌, ◌≤◌, Bool, true, false, cond, ◌⊎◌, List, [], ◌∷◌, ◌++◌, length, get_or, Ok, Err, Result, sym, refl, ap, ◌∙◌, subst, inl, inr, arith}
+use Rattle.std.proofs.Common.{◌≡◌, ℕ, zero, suc, ◌-◌, ◌<◌, Bool, true, false, ◌⊎◌, List, [], ◌∷◌, ◌++◌, length, get_or, Ok, Err, Result, refl, ap, ◌∙◌, subst, inl, inr, arith}
 use Rattle.std.specs.List.{AllByRecursion as All}
 use Rattle.std.proofs.ByRecursion.{All-push}
 use Rattle.std.proofs.lemmas.List.{length_push, get_or_push}
-use Rattle.std.proofs.lemmas.Bool.{cases_Bool}
 use Rattle.disk.specs.declared.refusal.Refusal.{Refusal}
 use Rattle.disk.specs.Geometry.{Place, legal}
 use Rattle.disk.specs.Bytes.{Bytes}
-use Rattle.sector.specs.Source.{Disk, Reading, bytes, fault, Whole, reading, loaded, and_then}
+use Rattle.sector.specs.Source.{Disk, Reading, bytes, fault, Whole, loaded, and_then}
 use Rattle.chains.specs.declared.route.Route.{Route}
 use Rattle.chains.specs.declared.route.Link.{Link}
 use Rattle.chains.specs.declared.route.Link.TheVariants.{Stop, Next}

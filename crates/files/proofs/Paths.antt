@@ -1,10 +1,10 @@
 -- Extracting looks at nothing but its path.
-use Rattle.std.proofs.Common.{◌≡◌, ℕ, zero, suc, ◌+◌, Bool, true, false, cond, ◌||◌, List, [], ◌∷◌, ◌++◌, take, drop, Ok, Err, Result, sym, refl, ap, ◌∙◌, subst, inl, inr, arith}
-use Rattle.std.proofs.lemmas.List.{append_assoc, append-nil}
+use Rattle.std.proofs.Common.{◌≡◌, ℕ, zero, suc, Bool, true, false, ◌||◌, List, [], ◌∷◌, ◌++◌, take, drop, Ok, Err, Result, sym, refl, ap, ◌∙◌, subst, inl, inr}
+use Rattle.std.proofs.lemmas.List.{append_assoc}
 use Rattle.std.proofs.lemmas.Bool.{or_left, or_right}
 use Rattle.disk.specs.declared.refusal.Refusal.{Refusal}
-use Rattle.disk.specs.Geometry.{Place, legal, same_place}
-use Rattle.sector.specs.Source.{Disk, reading, loaded, and_then}
+use Rattle.disk.specs.Geometry.{Place, same_place}
+use Rattle.sector.specs.Source.{Disk, loaded, and_then}
 use Rattle.files.specs.declared.find.Located.{Located}
 use Rattle.chains.specs.declared.route.Route.{Route}
 use Rattle.chains.specs.declared.route.Route.TheVariants.{File, Search}
@@ -23,7 +23,6 @@ use Rattle.chains.proofs.Chains.{no_answer}
 use Rattle.files.proofs.Followed.{chain_step, visited_loaded}
 use Rattle.chains.proofs.Chains.{visited_on_route}
 use Rattle.chains.proofs.Bounds.{visited_unmet}
-use Rattle.files.proofs.Extracts.{came_from}
 
 pub among_append : (ps qs : List Place) (p : Place) → among (ps ++ qs) p ≡ (among ps p || among qs p)
 unfolding among

@@ -1,5 +1,5 @@
 -- A file's bytes.
-use Rattle.std.specs.Prelude.{◌≡◌, ℕ, ◌+◌, ◌-◌, ◌*◌, ◌<◌, ◌≤◌, Bool, cond, List, [], ◌∷◌, ◌++◌, length, take, drop, Ok, Err, Result, nat_lt, slice_index}
+use Rattle.std.specs.Prelude.{◌≡◌, ℕ, ◌+◌, ◌-◌, ◌*◌, ◌≤◌, cond, List, [], ◌∷◌, ◌++◌, length, take, drop, Ok, Err, Result, nat_lt, slice_index}
 use Rattle.std.specs.List.{AllByRecursion as All}
 use Rattle.disk.specs.declared.cause.Cause.TheVariants.{ShortBuffer}
 use Rattle.disk.specs.declared.refusal.Refusal.{Refusal}

@@ -1,5 +1,5 @@
 -- From a name to its entry and its chain.
-use Rattle.std.specs.Prelude.{ℕ, ◌-◌, List, [], ◌∷◌, length, Some, None, Ok, Err, Option, Result, slice_index_or}
+use Rattle.std.specs.Prelude.{ℕ, ◌-◌, List, length, Some, None, Ok, Err, Option, Result, slice_index_or}
 use Rattle.disk.specs.declared.cause.Cause.TheVariants.{Unclosed as UnclosedFile, NotFound, ForeignType}
 use Rattle.disk.specs.declared.refusal.Refusal.{Refusal}
 use Rattle.disk.specs.Geometry.{Place}

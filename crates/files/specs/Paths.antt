@@ -1,5 +1,5 @@
 -- Which blocks are looked at.
-use Rattle.std.specs.Prelude.{◌≡◌, ℕ, zero, suc, Bool, true, cond, List, [], ◌∷◌, ◌++◌, Ok, Err, Result}
+use Rattle.std.specs.Prelude.{◌≡◌, ℕ, zero, suc, true, cond, List, [], ◌∷◌, ◌++◌, Ok, Err, Result}
 use Rattle.disk.specs.declared.refusal.Refusal.{Refusal}
 use Rattle.disk.specs.Geometry.{Place}
 use Rattle.sector.specs.Source.{Disk, loaded, and_then}
@@ -9,7 +9,7 @@ use Rattle.chains.specs.declared.route.Link.{Link}
 use Rattle.chains.specs.declared.route.Link.TheVariants.{Stop, Next}
 use Rattle.chains.specs.Sets.{among}
 use Rattle.directory.specs.Names.{named}
-use Rattle.chains.specs.Chains.{on_route, link_of, most}
+use Rattle.chains.specs.Chains.{on_route, link_of}
 use Rattle.files.specs.Found.{located, closed_at}
 
 -- the places that follow an answer; none follow a refusal

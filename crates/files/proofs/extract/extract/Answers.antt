@@ -1,4 +1,4 @@
-use Rattle.std.proofs.Common.{◌≡◌, ◌<◌, ◌≤◌, length, Ok, Err, sym, refl, ap, ◌∙◌, arith}
+use Rattle.std.proofs.Common.{length, Err, ap, ◌∙◌, arith}
 use Rattle.files.proofs.Extracts.{fills, too_long, too_long_buffer, answered_so, filled_so}
 use Rattle.files.proofs.extract.extract.Goals as goal
 

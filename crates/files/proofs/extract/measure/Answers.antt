@@ -1,4 +1,4 @@
-use Rattle.std.proofs.Common.{◌≡◌, length, arith}
+use Rattle.std.proofs.Common.{arith}
 use Rattle.files.proofs.Extracts.{extent_is}
 use Rattle.files.proofs.extract.measure.Goals as goal
 
