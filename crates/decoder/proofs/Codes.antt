@@ -1,7 +1,7 @@
 -- The coded bits of a data block: as many as they are, what they begin and end with, and what they read as.
 use Rattle.std.proofs.Common.{◌≡◌, ℕ, zero, suc, ◌+◌, ◌-◌, ◌*◌, ◌/◌, ◌%◌, ◌^◌, ◌<◌, ◌≤◌, Bool, true, false, cond, not, ◌&&◌, eqb, leb, ◌⊎◌, List, [], ◌∷◌, ◌++◌, length, get_or, take, drop, Some, None, Ok, fold, Option, sym, refl, ap, ◌∙◌, subst, inl, inr, ⊎_elim, arith}
 use lib.Bits.{bit_xor, xor_lt}
-use Rattle.std.specs.List.{flat_map, AllByRecursion as All}
+use Rattle.std.specs.List.{flat_map, AllByRecursion}
 use Rattle.std.proofs.lemmas.List.{append_assoc, length-append, take_at, drop_at}
 use Rattle.std.proofs.ByRecursion.{All-push}
 use Rattle.std.proofs.lemmas.Bool.{cases_Bool, true≢false, false≢true, cond-true, cond-false, eqb-true, eq-eqb, cases_lt, and_parts}
@@ -111,7 +111,7 @@ coded_ten b w h =
     ∙ ap (λ (z : List Bool). byte_of (value z)) (take_at (ten b) w 10 refl)
     ∙ byte_back b h
 
-pub bytes_back : (n : ℕ) (bs : List ℕ) (w : List Bool) → length bs ≡ n → All (λ x. x < 256) bs → bytes_in n (flat_map ten bs ++ w) ≡ Some bs
+pub bytes_back : (n : ℕ) (bs : List ℕ) (w : List Bool) → length bs ≡ n → AllByRecursion (λ x. x < 256) bs → bytes_in n (flat_map ten bs ++ w) ≡ Some bs
 unfolding bytes_in
 bytes_back zero [] w e h = refl
 bytes_back (suc n) [] w e h = absurd (let z : ⊥ = omega arith in z)
@@ -126,7 +126,7 @@ length_joined : (bs : List ℕ) → length (flat_map ten bs) ≡ length bs * 10
 length_joined [] = refl
 length_joined (b ∷ bs) = length-append (ten b) (flat_map ten bs) ∙ (let e = length_joined bs in let z : 10 + length (flat_map ten bs) ≡ suc (length bs) * 10 = omega arith in z)
 
-folded_small : (bs : List ℕ) (a : ℕ) → a < 256 → All (λ x. x < 256) bs → fold bit_xor a bs < 256
+folded_small : (bs : List ℕ) (a : ℕ) → a < 256 → AllByRecursion (λ x. x < 256) bs → fold bit_xor a bs < 256
 folded_small [] a h e = h
 folded_small (b ∷ bs) a h e = folded_small bs (bit_xor a b) (xor_lt 8 a b h e.0) e.1
 
@@ -147,7 +147,7 @@ pub record Lays (l : List Bool) (b : List ℕ) : Type 0 where
   pub plain : (w : List Bool) → header (l ++ w) ≡ None
   pub holds : (w : List Bool) → data_of (l ++ w) ≡ Ok b
 
-pub lays : (b : List ℕ) → length b ≡ 256 → All (λ x. x < 256) b → Lays (data_bits b) b
+pub lays : (b : List ℕ) → length b ≡ 256 → AllByRecursion (λ x. x < 256) b → Lays (data_bits b) b
 unfolding data_bits data_bytes byte_at
 lays b n h =
     let S : ℕ = xor_all b in

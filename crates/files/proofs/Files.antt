@@ -1,7 +1,7 @@
 -- The data of a chain's blocks, one after another, and a buffer that takes it up.
 use Rattle.std.proofs.Common.{◌≡◌, ℕ, zero, suc, ◌+◌, ◌-◌, ◌*◌, ◌<◌, ◌≤◌, min, List, [], ◌∷◌, ◌++◌, length, get_or, take, drop, Ok, sym, refl, ap, ◌∙◌, arith}
 use lib.Seq.{take-append-add}
-use Rattle.std.specs.List.{AllByRecursion as All}
+use Rattle.std.specs.List.{AllByRecursion}
 use Rattle.std.proofs.ByRecursion.{All-get_or}
 use Rattle.std.proofs.lemmas.List.{append_assoc, length-append, length-take-le, length-drop, drop-drop, drop_at, take_at, take-append-drop, take-append-le, at_drop_more}
 use Rattle.disk.specs.Geometry.{Place}
@@ -38,7 +38,7 @@ module _ (d : Disk) where
       let e = ap length (data_is p r.0 r.1) in
       omega (arith, r.2)
 
-  pub all_length : (ps : List Place) → All (Readable d) ps → length (all_data d ps) ≡ 254 * length ps
+  pub all_length : (ps : List Place) → AllByRecursion (Readable d) ps → length (all_data d ps) ≡ 254 * length ps
   unfolding all_data
   all_length [] a = refl
   all_length (p ∷ ps) a =
@@ -46,7 +46,7 @@ module _ (d : Disk) where
       let e = data_length p a.0 in
       length-append (block_data d p) (all_data d ps) ∙ (omega arith)
 
-  all_drop : (k : ℕ) (ps : List Place) → All (Readable d) ps → k ≤ length ps → drop (254 * k) (all_data d ps) ≡ all_data d (drop k ps)
+  all_drop : (k : ℕ) (ps : List Place) → AllByRecursion (Readable d) ps → k ≤ length ps → drop (254 * k) (all_data d ps) ≡ all_data d (drop k ps)
   unfolding all_data
   all_drop zero ps a h = refl
   all_drop (suc k) [] a h = absurd (omega arith)
@@ -58,7 +58,7 @@ module _ (d : Disk) where
       ∙ all_drop k ps a.1 (omega arith)
 
   -- the k-th block has its data at 254 * k
-  data_at : (k n : ℕ) (ps : List Place) (b : List ℕ) → All (Readable d) ps → k < length ps → n ≤ 254 → loaded d (get_or ps k (0, 0)) ≡ Ok b → take n (drop (254 * k) (all_data d ps)) ≡ take n (drop 2 b)
+  data_at : (k n : ℕ) (ps : List Place) (b : List ℕ) → AllByRecursion (Readable d) ps → k < length ps → n ≤ 254 → loaded d (get_or ps k (0, 0)) ≡ Ok b → take n (drop (254 * k) (all_data d ps)) ≡ take n (drop 2 b)
   unfolding all_data
   data_at k n ps b a h w e =
       let s = data_length (get_or ps k (0, 0)) (All-get_or (Readable d) ps k (0, 0) h a) in
@@ -67,7 +67,7 @@ module _ (d : Disk) where
       ∙ ap (take n) (data_is (get_or ps k (0, 0)) b e)
 
   -- one more block is copied
-  pub copied_more : (ps : List Place) (k total : ℕ) (old buf b : List ℕ) → All (Readable d) ps → k < length ps → 254 * k ≤ total → total ≤ 254 * length ps → total ≤ length old → loaded d (get_or ps k (0, 0)) ≡ Ok b →
+  pub copied_more : (ps : List Place) (k total : ℕ) (old buf b : List ℕ) → AllByRecursion (Readable d) ps → k < length ps → 254 * k ≤ total → total ≤ 254 * length ps → total ≤ length old → loaded d (get_or ps k (0, 0)) ≡ Ok b →
       buf ≡ take (min (254 * k) total) (all_data d ps) ++ drop (min (254 * k) total) old →
       take (254 * k) buf ++ (take (min (total - 254 * k) 254) (drop 2 b) ++ drop (254 * k + min (total - 254 * k) 254) buf) ≡ take (min (254 * (k + 1)) total) (all_data d ps) ++ drop (min (254 * (k + 1)) total) old
   copied_more ps k total old buf b a h low high fits e inv =

@@ -1,6 +1,6 @@
 -- What is known of the blocks of a chain that was followed to its end.
 use Rattle.std.proofs.Common.{◌≡◌, ℕ, zero, suc, ◌-◌, ◌<◌, Bool, true, false, ◌⊎◌, List, [], ◌∷◌, ◌++◌, length, get_or, Ok, Err, Result, refl, ap, ◌∙◌, subst, inl, inr, arith}
-use Rattle.std.specs.List.{AllByRecursion as All}
+use Rattle.std.specs.List.{AllByRecursion}
 use Rattle.std.proofs.ByRecursion.{All-push}
 use Rattle.std.proofs.lemmas.List.{length_push, get_or_push}
 use Rattle.disk.specs.declared.refusal.Refusal.{Refusal}
@@ -61,7 +61,7 @@ module _ (d : Disk) (whole : (p : Place) → Whole (d p)) where
   -- every block of a chain can be read, and the last one's bytes are at hand
   pub record Walked (f : Followed) : Type 0 where
     pub some : 0 < length f.0
-    pub readable : All (Readable d) f.0
+    pub readable : AllByRecursion (Readable d) f.0
     pub last : loaded d (last_of f.0) ≡ Ok f.1
 
   last_push : (ps : List Place) (p : Place) → last_of (ps ++ p ∷ []) ≡ p
@@ -69,7 +69,7 @@ module _ (d : Disk) (whole : (p : Place) → Whole (d p)) where
       let e : length (ps ++ p ∷ []) - 1 ≡ length ps = omega (arith, length_push ps p) in
       ap (λ (k : ℕ). get_or (ps ++ p ∷ []) k (0, 0)) e ∙ get_or_push ps p (0, 0) (length ps) refl
 
-  pub chain_walked : (r : Route) (n : ℕ) (met : List Place) (from p : Place) (f : Followed) → chain_from d r n met from p ≡ Ok f → All (Readable d) met → Walked f
+  pub chain_walked : (r : Route) (n : ℕ) (met : List Place) (from p : Place) (f : Followed) → chain_from d r n met from p ≡ Ok f → AllByRecursion (Readable d) met → Walked f
   unfolding chain_from
   chain_walked r zero met from p f e a = absurd (no_answer e)
   chain_walked r (suc n) met from p f e a =

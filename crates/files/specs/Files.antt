@@ -1,6 +1,6 @@
 -- A file's bytes.
 use Rattle.std.specs.Prelude.{◌≡◌, ℕ, ◌+◌, ◌-◌, ◌*◌, ◌≤◌, cond, List, [], ◌∷◌, ◌++◌, length, take, drop, Ok, Err, Result, nat_lt, slice_index}
-use Rattle.std.specs.List.{AllByRecursion as All}
+use Rattle.std.specs.List.{AllByRecursion}
 use Rattle.disk.specs.declared.cause.Cause.TheVariants.{ShortBuffer}
 use Rattle.disk.specs.declared.refusal.Refusal.{Refusal}
 use Rattle.disk.specs.Geometry.{Place}
@@ -62,7 +62,7 @@ Readable d p = (b : List ℕ) × (loaded d p ≡ Ok b) × (length b ≡ 256)
 -- a chain that holds that many bytes, and a buffer that has room for them
 pub record Fills (d : Disk) (c : Chain) (total room : ℕ) : Type 0 where
   pub count : c.count ≤ 683
-  pub readable : All (Readable d) (take c.count c.places)
+  pub readable : AllByRecursion (Readable d) (take c.count c.places)
   pub low : 254 * (c.count - 1) ≤ total
   pub high : total ≤ 254 * c.count
   pub fits : total ≤ room

@@ -1,6 +1,6 @@
 // A file's bytes out of any source of blocks.
 ghost use Rattle.std.specs.Prelude.{◌≡◌, ℕ, ◌+◌, ◌-◌, ◌*◌, ◌<◌, ◌≤◌, min, ◌++◌, length, take, drop, slice_index};
-ghost use Rattle.std.specs.List.{AllByRecursion as All};
+ghost use Rattle.std.specs.List.{AllByRecursion};
 ghost use Rattle.files.specs.Files.{Readable, block_data, all_data, measured, extract_answer, extract_buffer, Fills};
 
 use crate::find::*;

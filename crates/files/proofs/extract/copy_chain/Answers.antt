@@ -1,5 +1,5 @@
 use Rattle.std.proofs.Common.{◌≡◌, ℕ, ◌<◌, ◌≤◌, List, length, get_or, take, is_ok, sym, ap, ◌∙◌, subst, arith}
-use Rattle.std.specs.List.{AllByRecursion as All}
+use Rattle.std.specs.List.{AllByRecursion}
 use Rattle.std.proofs.ByRecursion.{All-get_or}
 use Rattle.std.proofs.lemmas.List.{length-take-le, get_or-take}
 use Rattle.disk.specs.Geometry.{Place}
@@ -9,7 +9,7 @@ use Rattle.files.proofs.Files.{copied_more}
 use Rattle.files.proofs.extract.copy_chain.Goals as goal
 
 -- the k-th block of the chain is one of those that can be read
-read_before : (d : Disk) (places : List Place) (n k : ℕ) → n ≤ length places → k < n → All (Readable d) (take n places) → Readable d (get_or places k (0, 0))
+read_before : (d : Disk) (places : List Place) (n k : ℕ) → n ≤ length places → k < n → AllByRecursion (Readable d) (take n places) → Readable d (get_or places k (0, 0))
 read_before d places n k h w a =
     let l = length-take-le n places h in
     let e = get_or-take n places k (0, 0) w in
