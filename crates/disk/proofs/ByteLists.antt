@@ -1,5 +1,5 @@
 -- Parts of a list of bytes are lists of bytes.
-use Rattle.std.proofs.Common.{ℕ, ◌+◌, ◌<◌, List, length, take, drop, sym, subst, inl, inr, arith}
+use Rattle.std.proofs.Common.{ℕ, ◌+◌, ◌<◌, List, take, drop, sym, subst, inl, inr, arith}
 use Rattle.std.proofs.lemmas.List.{length-take, get_or-take, get_or-drop, get_or_past}
 use Rattle.std.proofs.lemmas.Bool.{cases_lt}
 use Rattle.disk.specs.Bytes.{Bytes}

@@ -1,8 +1,8 @@
 -- The number of a block tells the block.
-use Rattle.std.proofs.Common.{◌≡◌, ℕ, ◌+◌, ◌-◌, ◌*◌, ◌/◌, ◌%◌, ◌<◌, ◌≤◌, Bool, true, false, cond, eqb, ltb, leb, Some, None, sym, refl, ap, ◌∙◌, arith}
+use Rattle.std.proofs.Common.{◌≡◌, ℕ, ◌<◌, true, ltb, Some, None, ap, ◌∙◌, arith}
 use Rattle.std.proofs.lemmas.Bool.Decides.{nat_tests}
 use Rattle.std.proofs.lemmas.Bool.{cond-true, lt-ltb}
-use Rattle.disk.specs.Geometry.{Place, sectors_on, legal, blocks_before, index_of, track_at, sector_at, placed_at}
+use Rattle.disk.specs.Geometry.{Place, legal, index_of, track_at, sector_at, placed_at}
 use Rattle.disk.specs.Order.{earlier, PlaceOrder}
 
 pub index_within : (p : Place) → legal p ≡ true → index_of p < 683

@@ -1,7 +1,7 @@
 -- Refusals by their cause, layer and place.
 use Rattle.disk.specs.declared.cause.Cause.{Cause}
 use Rattle.disk.specs.declared.layer.Layer.{Layer}
-use Rattle.disk.specs.declared.layer.Layer.TheVariants.{Image, Sector, Volume, Caller}
+use Rattle.disk.specs.declared.layer.Layer.TheVariants.{Image, Volume, Caller}
 use Rattle.disk.specs.declared.refusal.Refusal.{Refusal}
 use Rattle.disk.specs.Geometry.{Place}
 

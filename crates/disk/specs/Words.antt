@@ -1,5 +1,5 @@
 -- What is shown of a refusal.
-use Rattle.std.specs.Prelude.{ℕ, ◌/◌, ◌%◌, List, [], ◌∷◌, ◌++◌, codes, decimal}
+use Rattle.std.specs.Prelude.{ℕ, ◌/◌, ◌%◌, List, ◌++◌, codes, decimal}
 use Rattle.disk.specs.declared.cause.Cause.{Cause}
 use Rattle.disk.specs.declared.cause.Cause.TheVariants.{NoHeader, NoFrame, NoData, BadChecksum, BadCode, Protected, BadHeader, BadName, Unclosed, NotBegun, NotFound, NameTaken, ForeignType, NoSuchBlock, BadStructure, Full, NotDos, TwoHeaders, ShortFrame, BadImage, ShortBuffer, BadSpan, Other}
 use Rattle.disk.specs.declared.refusal.Refusal.{Refusal}

@@ -1,9 +1,8 @@
 -- Bits of numbers and of bytes, by place and by parts.
-use Rattle.std.proofs.Common.{◌≡◌, ℕ, zero, suc, ◌+◌, ◌-◌, ◌*◌, ◌/◌, ◌%◌, ◌^◌, ◌<◌, ◌≤◌, Bool, true, false, cond, eqb, ◌⊎◌, List, [], ◌∷◌, ◌++◌, length, get_or, sym, refl, ap, ◌∙◌, inl, inr, ⊎_elim, mul_assoc, add_comm, suc-add, div-add-mod', zero-add, arith, length-append, pow-add}
+use Rattle.std.proofs.Common.{◌≡◌, ℕ, zero, suc, ◌+◌, ◌-◌, ◌*◌, ◌/◌, ◌%◌, ◌^◌, ◌<◌, ◌≤◌, Bool, true, false, cond, eqb, List, [], ◌∷◌, ◌++◌, length, get_or, sym, refl, ap, ◌∙◌, mul_assoc, add_comm, suc-add, div-add-mod', zero-add, arith, length-append, pow-add}
 use native.Mathlib.Nat.{mul-add-mod_self_right}
 use Rattle.std.proofs.lemmas.Nat.{shr-shr, shr_high, field_of}
 use Rattle.std.proofs.lemmas.List.{get_or_append_left, get_or-append_right}
-use Rattle.std.proofs.lemmas.Bool.{cases_lt}
 use Rattle.std.specs.List.{flat_map}
 use Rattle.gcr.specs.Bits.{bit, bits, bits_of, and_bit}
 use Rattle.gcr.specs.Codes.{ten}

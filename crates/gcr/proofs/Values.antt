@@ -1,14 +1,13 @@
 -- The number that a number's bits write is that number, and what ten of them stand for.
-use Rattle.std.proofs.Common.{◌≡◌, ℕ, zero, suc, ◌+◌, ◌-◌, ◌*◌, ◌/◌, ◌%◌, ◌^◌, ◌<◌, ◌≤◌, Bool, true, false, cond, eqb, leb, List, [], ◌∷◌, ◌++◌, length, take, drop, Some, None, fold, Option, sym, refl, ap, ◌∙◌, add_assoc, mod-eq_of_lt, mul_assoc, add-mul, arith}
+use Rattle.std.proofs.Common.{◌≡◌, ℕ, zero, suc, ◌+◌, ◌*◌, ◌/◌, ◌%◌, ◌^◌, ◌<◌, Bool, cond, leb, List, [], ◌∷◌, ◌++◌, length, take, Some, None, fold, Option, sym, refl, ap, ◌∙◌, add_assoc, mod-eq_of_lt, mul_assoc, add-mul, arith}
 use native.Mathlib.Nat.{pow-succ'}
 use Rattle.std.proofs.lemmas.Nat.{mod-pow-add}
 use Rattle.std.proofs.lemmas.Bool.{cond-true, le-leb}
 use Rattle.std.proofs.lemmas.List.{length-append}
-use Rattle.std.proofs.lemmas.Bool.Decides.{nat_tests, eqb_tells}
+use Rattle.std.proofs.lemmas.Bool.Decides.{nat_tests}
 use Rattle.std.specs.List.{flat_map}
-use Rattle.gcr.specs.Bits.{bit, bits, bits_of, and_bit, value}
+use Rattle.gcr.specs.Bits.{bit, bits, and_bit, value}
 use Rattle.gcr.specs.Codes.{if_some, byte_of, coded, bytes_in}
-use Rattle.gcr.proofs.Bits.{length_bits, bits_append}
 
 -- a bit as a number
 bit_is : (k n : ℕ) → cond (bit k n) 1 0 ≡ n / 2 ^ k % 2

@@ -1,5 +1,5 @@
 -- Numbers as bits, the highest first.
-use Rattle.std.specs.Prelude.{ℕ, zero, suc, ◌+◌, ◌*◌, ◌/◌, ◌%◌, ◌^◌, Bool, true, false, cond, List, [], ◌∷◌, fold, ◌==◌}
+use Rattle.std.specs.Prelude.{ℕ, zero, suc, ◌+◌, ◌*◌, ◌/◌, ◌%◌, ◌^◌, Bool, cond, List, [], ◌∷◌, fold, ◌==◌}
 use Rattle.std.specs.List.{flat_map}
 
 -- bit k of a number, the lowest being bit 0

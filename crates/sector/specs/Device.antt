@@ -1,5 +1,5 @@
 -- What a device of blocks means beyond what it holds, and what writing it answers.
-use Rattle.std.specs.Prelude.{ℕ, Bool, cond, ◌&&◌, List, is_ok, Ok, Err, Result}
+use Rattle.std.specs.Prelude.{ℕ, cond, ◌&&◌, List, is_ok, Ok, Err, Result}
 use Rattle.disk.specs.declared.cause.Cause.{Cause}
 use Rattle.disk.specs.declared.cause.Cause.TheVariants.{NoSuchBlock}
 use Rattle.disk.specs.declared.layer.Layer.TheVariants.{Sector}

@@ -1,8 +1,7 @@
 -- What a source of blocks means, and what reading it answers.
-use Rattle.std.specs.Prelude.{◌≡◌, ℕ, Bool, true, false, cond, List, length, Ok, Err, Result, ◌==◌}
+use Rattle.std.specs.Prelude.{◌≡◌, ℕ, cond, List, length, Ok, Err, Result, ◌==◌}
 use Rattle.disk.specs.declared.cause.Cause.{Cause}
 use Rattle.disk.specs.declared.cause.Cause.TheVariants.{NoSuchBlock}
-use Rattle.disk.specs.declared.layer.Layer.{Layer}
 use Rattle.disk.specs.declared.layer.Layer.TheVariants.{Track, Sector}
 use Rattle.disk.specs.declared.refusal.Refusal.{Refusal}
 use Rattle.disk.specs.Bytes.{Bytes}

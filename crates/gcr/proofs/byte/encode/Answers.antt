@@ -1,6 +1,4 @@
-use Rattle.std.proofs.Common.{◌≡◌, ◌/◌, ◌%◌, ◌++◌, sym, refl, ap, ◌∙◌, rules}
-use Rattle.gcr.specs.Bits.{bits}
-use Rattle.gcr.specs.Codes.{code_of}
+use Rattle.std.proofs.Common.{◌∙◌, rules}
 use Rattle.gcr.proofs.Bits.{bits_append}
 use Rattle.gcr.proofs.byte.encode.Goals as goal
 

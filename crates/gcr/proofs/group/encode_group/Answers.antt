@@ -1,7 +1,5 @@
-use Rattle.std.proofs.Common.{◌≡◌, ℕ, ◌+◌, ◌*◌, List, [], ◌∷◌, ◌++◌, length, get_or, sym, refl, ap, ◌∙◌, rules}
-use Rattle.std.specs.List.{flat_map}
+use Rattle.std.proofs.Common.{◌+◌, ◌*◌, ◌∙◌, rules}
 use Rattle.gcr.specs.Bits.{bits}
-use Rattle.gcr.specs.Codes.{code_of, ten}
 use Rattle.gcr.proofs.Bits.{five_bytes, four_tens, four_joined}
 use Rattle.gcr.proofs.group.encode_group.Goals as goal
 

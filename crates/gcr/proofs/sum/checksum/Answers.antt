@@ -1,4 +1,4 @@
-use Rattle.std.proofs.Common.{◌≡◌, ℕ, get_or, sym, ap, ◌∙◌, rules}
+use Rattle.std.proofs.Common.{ℕ, get_or, sym, ap, ◌∙◌, rules}
 use lib.Bits.{bit_xor}
 use Rattle.std.proofs.lemmas.List.{take_all}
 use Rattle.std.proofs.lemmas.List.Sums.{fold_more}
