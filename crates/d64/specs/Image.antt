@@ -1,9 +1,10 @@
 -- The blocks of a D64 image, in place order, and which of them may be written.
 use Rattle.std.specs.Prelude.{ℕ, ◌*◌, Bool, cond, List, length, take, drop, Ok, Err, Result, ◌==◌}
 use Rattle.disk.specs.declared.cause.Cause.TheVariants.{NoHeader, NoSuchBlock, Protected, BadImage}
+use Rattle.disk.specs.declared.layer.Layer.TheVariants.{Image}
 use Rattle.disk.specs.declared.refusal.Refusal.{Refusal}
 use Rattle.disk.specs.Geometry.{Place, legal, index_of}
-use Rattle.disk.specs.Refusals.{by_image}
+use Rattle.disk.specs.Refusals.{refusal}
 use Rattle.sector.specs.Source.{Reading, bytes, fault}
 use Rattle.sector.specs.Device.{Answer, free, barred}
 
@@ -21,4 +22,4 @@ answers_of xs protected p = cond (legal p) (cond protected (barred Protected) (c
 
 -- the check of an image by its length
 abbrev pub checked_length : ℕ → Result Unit Refusal
-checked_length n = cond (n == 174848) (Ok tt) (Err (by_image BadImage))
+checked_length n = cond (n == 174848) (Ok tt) (Err (refusal BadImage Image (0, 0)))
