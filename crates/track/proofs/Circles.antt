@@ -1,14 +1,14 @@
-use Rattle.std.proofs.Common.{◌≡◌, ℕ, zero, suc, ◌+◌, ◌-◌, ◌*◌, ◌^◌, ◌<◌, ◌≤◌, min, Bool, true, false, cond, not, ◌&&◌, leb, List, [], ◌∷◌, ◌++◌, length, get_or, take, drop, Some, None, Option, sym, refl, ap, ◌∙◌, arith, pow-add}
-use Rattle.std.proofs.lemmas.List.{length-append, length-take, length-drop, length-take-le, get_or_append_left, get_or-append_right, get_or-drop, get_or-take, drop_more, drop_all, drop-drop, take_more}
+use Rattle.std.proofs.Common.{◌≡◌, ℕ, suc, ◌+◌, ◌-◌, ◌*◌, ◌^◌, ◌<◌, ◌≤◌, Bool, true, false, cond, not, ◌&&◌, leb, List, [], ◌∷◌, length, get_or, take, drop, None, Option, sym, refl, ap, ◌∙◌, arith, pow-add}
+use Rattle.std.proofs.lemmas.List.{length-append, length-take, length-drop, length-take-le, get_or_append_left, get_or-append_right, get_or-drop, get_or-take, drop_more, drop_all}
 use Rattle.std.proofs.lemmas.Bool.{cond_both, cond-true, cond-false, lt-leb, le-leb}
 use Rattle.std.proofs.lemmas.List.Sums.{fold_more}
 use Rattle.gcr.specs.Bits.{bits_of, value, and_bit}
 use Rattle.gcr.specs.Codes.{byte_of, coded}
 use Rattle.gcr.proofs.Bits.{length_bits_of}
 use Rattle.track.specs.Headers.{byte_at, head_of, header}
-use Rattle.track.specs.Shown.{shown, Fine, rest}
+use Rattle.track.specs.Shown.{shown, Fine}
 use Rattle.track.specs.declared.window.Window.{Window}
-use Rattle.track.specs.Circles.{circle_of, turned, ones, before, start, frames_from, frames}
+use Rattle.track.specs.Circles.{circle_of, turned, ones, before, start, frames_from}
 
 pub length_circle : (n : ℕ) (bs : List ℕ) → n ≤ length bs * 8 → length (circle_of n bs) ≡ n
 length_circle n bs h = length-take-le n (bits_of bs) (let e = length_bits_of bs in omega arith)

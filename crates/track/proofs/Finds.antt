@@ -1,9 +1,9 @@
 -- Where a search for a block stands: what was found, and the place of its data.
-use Rattle.std.proofs.Common.{◌≡◌, ℕ, zero, suc, ◌+◌, ◌-◌, ◌*◌, ◌<◌, ◌≤◌, Bool, true, false, cond, not, ◌&&◌, ◌||◌, eqb, ◌⊎◌, List, [], ◌∷◌, ◌++◌, length, Some, None, Option, sym, refl, ap, ◌∙◌, subst, inl, inr, arith}
+use Rattle.std.proofs.Common.{◌≡◌, ℕ, ◌-◌, ◌<◌, ◌≤◌, Bool, true, false, cond, not, ◌||◌, eqb, ◌⊎◌, List, [], ◌∷◌, ◌++◌, length, Some, Option, sym, refl, ap, ◌∙◌, subst, inl, inr, arith}
 use Rattle.std.proofs.lemmas.Bool.{cond-true, cond-false, and_from, and_left, and_right, ne_eqb, eq-eqb, false≢true, true≢false}
-use Rattle.track.specs.Circles.{turned, start, before, frames_from, frames}
+use Rattle.track.specs.Circles.{turned, start, frames_from, frames}
 use Rattle.track.specs.Headers.{header, place_is, sound_head, unsound_head, byte_at}
-use Rattle.track.specs.Reading.{Sought, at, missing}
+use Rattle.track.specs.Reading.{Sought, missing}
 use Rattle.track.proofs.Seeks.{scan}
 use Rattle.track.specs.Shown.{shown, whole, passed, Next}
 use Rattle.track.specs.declared.window.Window.{Window}

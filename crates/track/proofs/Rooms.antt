@@ -5,7 +5,7 @@ use Rattle.disk.specs.declared.cause.Cause.TheVariants.{ShortFrame}
 use Rattle.track.specs.Circles.{frames}
 use Rattle.track.specs.Headers.{header}
 use Rattle.track.specs.Places.{data_place}
-use Rattle.track.specs.Reading.{Sought, at, sought}
+use Rattle.track.specs.Reading.{at, sought}
 use Rattle.track.specs.Room.{room, sought_room, room_for, FreeAt}
 
 pub not_some : {X : Type 0} (o : Option X) → false ≡ is_some o → o ≡ None

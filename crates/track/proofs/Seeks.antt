@@ -1,6 +1,6 @@
-use Rattle.std.proofs.Common.{◌≡◌, ℕ, zero, suc, ◌+◌, ◌-◌, ◌*◌, ◌<◌, ◌≤◌, Bool, true, false, cond, not, ◌&&◌, ◌||◌, List, [], ◌∷◌, ◌++◌, length, Some, None, filter, Option, sym, refl, ap, ◌∙◌}
+use Rattle.std.proofs.Common.{◌≡◌, ℕ, Bool, true, false, cond, ◌||◌, List, [], ◌∷◌, sym, refl, ap, ◌∙◌}
 use Rattle.track.specs.Headers.{header, sound_head, unsound_head}
-use Rattle.track.specs.Reading.{any, head_or, linked, pairs, from_hits, hits, sought, Sought, at, missing}
+use Rattle.track.specs.Reading.{any, head_or, linked, from_hits, hits, sought, Sought, at, missing}
 use Rattle.disk.specs.declared.cause.Cause.TheVariants.{BadHeader, NoHeader, TwoHeaders}
 
 -- the search, frame by frame: whether one was found, whether its successor is awaited, the successor, and whether an unsound one was met

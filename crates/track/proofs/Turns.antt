@@ -1,9 +1,9 @@
-use Rattle.std.proofs.Common.{◌≡◌, ℕ, zero, suc, ◌+◌, ◌-◌, ◌*◌, ◌<◌, ◌≤◌, Bool, true, false, cond, not, ◌&&◌, ◌||◌, List, [], ◌∷◌, ◌++◌, length, get_or, take, drop, filter, sym, refl, ap, ◌∙◌, add-zero, add-suc, suc-add, zero-add, arith, take-add}
-use Rattle.std.proofs.lemmas.List.{append_assoc, append-nil, drop-drop, drop-append-le, take-append-le, take-take, take_at, drop_at, take-append-drop, length-drop, length-take-le, length-append, drop-take, take_all, drop_all}
+use Rattle.std.proofs.Common.{◌≡◌, ℕ, zero, suc, ◌+◌, ◌-◌, ◌<◌, ◌≤◌, Bool, true, false, cond, ◌||◌, List, [], ◌∷◌, ◌++◌, length, take, drop, filter, sym, refl, ap, ◌∙◌, add-zero, suc-add, zero-add, arith, take-add}
+use Rattle.std.proofs.lemmas.List.{append_assoc, append-nil, drop-drop, drop-append-le, take-append-le, take-take, take_at, drop_at, take-append-drop, length-drop, length-append, drop-take}
 use Rattle.std.proofs.lemmas.List.Elements.{filter-append}
 use Rattle.track.specs.Circles.{turned, start, before, frames_from, frames}
 use Rattle.track.specs.Headers.{header, sound_head, unsound_head}
-use Rattle.track.specs.Reading.{any, head_or, linked, pairs, from_hits, hits, sought, sought_data, read_block, Sought, at, missing}
+use Rattle.track.specs.Reading.{any, head_or, linked, from_hits, sought, sought_data}
 use Rattle.track.specs.Laws.{Turning}
 use Rattle.track.proofs.Circles.{length_turned}
 

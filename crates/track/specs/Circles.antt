@@ -1,5 +1,5 @@
 -- Tracks as circles of bits, cut into frames by syncs.
-use Rattle.std.specs.Prelude.{ℕ, zero, suc, ◌+◌, ◌-◌, ◌*◌, Bool, true, false, cond, not, ◌&&◌, List, [], ◌∷◌, ◌++◌, length, take, drop, slice_index_or}
+use Rattle.std.specs.Prelude.{ℕ, zero, suc, ◌-◌, Bool, true, false, cond, not, ◌&&◌, List, [], ◌∷◌, ◌++◌, length, take, drop, slice_index_or}
 use Rattle.gcr.specs.Bits.{bits_of}
 
 -- the circle of n bits that bytes hold

@@ -1,5 +1,5 @@
 -- Fetching a track into bytes.
-use Rattle.std.specs.Prelude.{ℕ, zero, suc, ◌-◌, ◌*◌, ◌^◌, Bool, true, false, cond, ◌&&◌, List, [], ◌∷◌, ◌++◌, length, drop, Ok, Err, Result, ◌==◌, nat_le, nat_lt}
+use Rattle.std.specs.Prelude.{ℕ, suc, ◌-◌, ◌*◌, ◌^◌, Bool, cond, ◌&&◌, List, [], ◌∷◌, ◌++◌, length, drop, Ok, Err, Result, ◌==◌, nat_le, nat_lt}
 use Rattle.disk.specs.declared.cause.Cause.TheVariants.{NoSuchBlock, ShortBuffer}
 use Rattle.disk.specs.declared.layer.Layer.TheVariants.{Track}
 use Rattle.disk.specs.declared.refusal.Refusal.{Refusal}

@@ -1,5 +1,5 @@
 -- What a frame says as a header.
-use Rattle.std.specs.Prelude.{ℕ, ◌*◌, Bool, true, false, cond, not, ◌&&◌, List, drop, Some, None, Option, ◌==◌, bit_xor}
+use Rattle.std.specs.Prelude.{ℕ, ◌*◌, Bool, false, cond, not, ◌&&◌, List, drop, Some, None, Option, ◌==◌, bit_xor}
 use Rattle.gcr.specs.Codes.{coded, if_some}
 
 -- coded byte k of a frame

@@ -1,5 +1,5 @@
 -- What holds of frames and blocks on every circle.
-use Rattle.std.specs.Prelude.{◌≡◌, ℕ, ◌≤◌, Bool, true, List, ◌++◌, length}
+use Rattle.std.specs.Prelude.{◌≡◌, ℕ, ◌≤◌, Bool, true, List, length}
 use Rattle.track.specs.Circles.{turned, frames, start, cut}
 use Rattle.track.specs.Reading.{read_block}
 

@@ -1,5 +1,5 @@
 -- Reading a block from the frames of its track.
-use Rattle.std.specs.Prelude.{ℕ, zero, suc, Bool, true, false, cond, not, ◌&&◌, ◌||◌, List, [], ◌∷◌, ◌++◌, length, take, drop, Some, None, Ok, Err, filter, Option, Result, ◌==◌, nat_lt, slice_index}
+use Rattle.std.specs.Prelude.{ℕ, Bool, false, cond, ◌||◌, List, [], ◌∷◌, length, take, drop, Some, None, Ok, Err, filter, Option, Result, ◌==◌, nat_lt, slice_index}
 use Rattle.disk.specs.declared.cause.Cause.{Cause}
 use Rattle.disk.specs.declared.cause.Cause.TheVariants.{NoHeader, NoFrame, NoData, BadChecksum, BadCode, BadHeader, TwoHeaders, ShortFrame}
 use Rattle.gcr.specs.Codes.{bytes_in}

@@ -1,5 +1,5 @@
 -- What windows and walks over frames show.
-use Rattle.std.specs.Prelude.{◌≡◌, ℕ, ◌-◌, ◌*◌, ◌<◌, ◌≤◌, Bool, true, List, [], ◌∷◌, ◌++◌, length, take}
+use Rattle.std.specs.Prelude.{◌≡◌, ◌-◌, ◌*◌, ◌<◌, ◌≤◌, Bool, true, List, [], ◌∷◌, ◌++◌, length, take}
 use Rattle.track.specs.Circles.{turned, circle_of, start, frames_from}
 use Rattle.track.specs.declared.window.Window.{Window}
 use Rattle.track.specs.declared.window.Frames.{Frames}

@@ -1,14 +1,12 @@
-use Rattle.std.proofs.Common.{◌≡◌, ℕ, suc, ◌+◌, ◌-◌, ◌*◌, ◌^◌, ◌<◌, ◌≤◌, Bool, true, false, cond, not, ◌&&◌, eqb, List, [], ◌∷◌, ◌++◌, length, get_or, take, drop, Some, None, Ok, Err, Result, sym, refl, ap, ◌∙◌, arith, rules}
-use lib.Bits.{bit_xor}
-use Rattle.track.specs.Shown.{shown, rest, Fine}
+use Rattle.std.proofs.Common.{◌≡◌, ℕ, ◌+◌, eqb, List, [], ◌∷◌, ◌++◌, Some, None, Ok, Err, Result, sym, ap, ◌∙◌, arith}
+use Rattle.track.specs.Shown.{shown}
 use Rattle.track.specs.Headers.{byte_at}
-use Rattle.track.specs.Reading.{data_of, summed, reading_result, reading_buffer}
-use Rattle.gcr.specs.Codes.{bytes_in}
+use Rattle.track.specs.Reading.{reading_result, reading_buffer}
 use Rattle.gcr.specs.Sums.{xor_all}
 use Rattle.std.proofs.lemmas.Bool.{cond-true, cond-false, eq-eqb, ne_eqb}
 use Rattle.std.proofs.lemmas.List.{length-set}
 use Rattle.track.proofs.Circles.{length_shown}
-use Rattle.track.proofs.Blocks.{Left, left_step, left_fails, left_done, left_start, summed_is, data_short, data_long}
+use Rattle.track.proofs.Blocks.{left_step, left_fails, left_done, summed_is, data_short, data_long}
 use Rattle.track.proofs.block.data.Goals as goal
 use Rattle.disk.specs.declared.cause.Cause.{Cause}
 use Rattle.disk.specs.declared.cause.Cause.TheVariants.{BadChecksum}

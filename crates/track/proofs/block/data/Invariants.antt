@@ -1,4 +1,4 @@
-use Rattle.std.proofs.Common.{◌≡◌, length, take}
+use Rattle.std.proofs.Common.{◌≡◌, length}
 use Rattle.track.specs.Shown.{shown}
 use Rattle.track.proofs.Blocks.{Left}
 use Rattle.track.proofs.block.data.Given as goal

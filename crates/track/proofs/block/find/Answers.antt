@@ -1,12 +1,12 @@
-use Rattle.std.proofs.Common.{◌≡◌, ℕ, suc, ◌+◌, ◌-◌, ◌*◌, ◌^◌, ◌<◌, ◌≤◌, Bool, true, false, cond, not, ◌&&◌, eqb, List, [], ◌∷◌, ◌++◌, length, get_or, take, drop, Some, None, sym, refl, ap, ◌∙◌, subst, inl, inr, arith, rules}
-use Rattle.track.specs.Shown.{shown, rest, Fine, whole, passed, Next}
+use Rattle.std.proofs.Common.{◌≡◌, ℕ, ◌<◌, Bool, true, false, cond, List, [], length, Some, sym, ap, ◌∙◌, subst, inl, inr, arith, rules}
+use Rattle.track.specs.Shown.{shown, rest, Fine, whole, passed}
 use Rattle.track.specs.Circles.{circle_of, turned, start, frames_from, frames}
 use Rattle.track.specs.declared.window.Window.{Window}
 use Rattle.std.proofs.lemmas.Bool.{cond-true, cond-false}
 use Rattle.track.proofs.Circles.{length_circle}
 use Rattle.track.specs.Headers.{header, sound_head, unsound_head}
 use Rattle.track.specs.Reading.{missing, at, sought}
-use Rattle.track.specs.Places.{last_or, data_place}
+use Rattle.track.specs.Places.{last_or}
 use Rattle.track.proofs.Seeks.{scan, scan_start}
 use Rattle.track.proofs.Finds.{Placed, Moved, moved_waits, moved_shown, moved_where, where_found, named_sound, named_unsound, named_other, scan_hit, scan_miss, or_true, or_none, where_known, where_last, place_round, all_passed}
 use Rattle.track.proofs.block.find.Goals as goal

@@ -1,4 +1,4 @@
-use Rattle.std.proofs.Common.{◌≡◌, length, take}
+use Rattle.std.proofs.Common.{◌≡◌, length}
 use Rattle.track.specs.Shown.{shown, rest, Fine, whole, passed}
 use Rattle.track.specs.Circles.{circle_of, frames}
 use Rattle.track.specs.Reading.{sought}

@@ -1,7 +1,7 @@
 use Rattle.std.proofs.Common.{◌≡◌, ℕ, ◌+◌, ◌-◌, false, length, get_or, sym, ap, ◌∙◌, arith}
 use Rattle.std.proofs.lemmas.List.{get_or-take}
 use Rattle.gcr.specs.Bits.{bits_of}
-use Rattle.track.specs.Circles.{circle_of, turned}
+use Rattle.track.specs.Circles.{circle_of}
 use Rattle.track.proofs.Circles.{length_circle, getD_turned_low, getD_turned_high}
 use Rattle.track.proofs.reads.circle_bit.Goals as goal
 

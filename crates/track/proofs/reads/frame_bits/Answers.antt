@@ -1,8 +1,6 @@
-use Rattle.std.proofs.Common.{◌≡◌, ℕ, suc, ◌+◌, ◌-◌, ◌*◌, ◌^◌, ◌<◌, ◌≤◌, Bool, true, false, cond, not, ◌&&◌, List, [], ◌∷◌, ◌++◌, length, get_or, take, drop, sym, refl, ap, ◌∙◌, arith, rules}
-use Rattle.gcr.specs.Bits.{bits_of, value}
-use Rattle.gcr.specs.Codes.{coded}
-use Rattle.track.specs.Circles.{circle_of, turned, ones, before, start}
-use Rattle.track.proofs.Circles.{len, before_stops, before_steps, before_ends}
+use Rattle.std.proofs.Common.{◌≡◌, sym, ◌∙◌, arith}
+use Rattle.track.specs.Circles.{circle_of, turned}
+use Rattle.track.proofs.Circles.{len, before_steps, before_ends}
 use Rattle.track.proofs.reads.frame_bits.Goals as goal
 
 pub loop-i-preserved : goal.loop-i-preserved

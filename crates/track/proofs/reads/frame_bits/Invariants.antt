@@ -1,4 +1,4 @@
-use Rattle.std.proofs.Common.{◌≡◌, ◌+◌, ◌-◌, length, drop}
+use Rattle.std.proofs.Common.{◌≡◌, ◌+◌, length, drop}
 use Rattle.track.specs.Circles.{circle_of, turned, before}
 use Rattle.track.proofs.reads.frame_bits.Given as goal
 

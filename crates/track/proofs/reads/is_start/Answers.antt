@@ -1,7 +1,5 @@
-use Rattle.std.proofs.Common.{◌≡◌, ℕ, suc, ◌+◌, ◌-◌, ◌*◌, ◌^◌, ◌<◌, ◌≤◌, Bool, true, false, cond, not, ◌&&◌, List, [], ◌∷◌, ◌++◌, length, get_or, take, drop, sym, refl, ap, ◌∙◌, arith, rules}
-use Rattle.gcr.specs.Bits.{bits_of, value}
-use Rattle.gcr.specs.Codes.{coded}
-use Rattle.track.specs.Circles.{circle_of, turned, ones, before, start}
+use Rattle.std.proofs.Common.{◌∙◌, arith}
+use Rattle.track.specs.Circles.{circle_of, turned}
 use Rattle.track.proofs.Circles.{len, start_is}
 use Rattle.track.proofs.reads.is_start.Goals as goal
 

@@ -1,4 +1,4 @@
-use Rattle.std.proofs.Common.{◌≡◌, ℕ, ◌<◌, min, Bool, List, length, sym, ◌∙◌, arith}
+use Rattle.std.proofs.Common.{min, sym, ◌∙◌, arith}
 use Rattle.track.specs.Circles.{circle_of}
 use Rattle.track.specs.Shown.{shown}
 use Rattle.track.proofs.Circles.{length_circle, length_shown}

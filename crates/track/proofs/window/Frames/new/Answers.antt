@@ -1,8 +1,5 @@
-use Rattle.std.proofs.Common.{◌≡◌, ℕ, suc, ◌+◌, ◌-◌, ◌*◌, ◌^◌, ◌<◌, ◌≤◌, Bool, true, false, cond, not, ◌&&◌, List, [], ◌∷◌, ◌++◌, length, get_or, take, drop, Some, None, sym, refl, ap, ◌∙◌, arith, rules}
-use Rattle.gcr.specs.Bits.{bits_of, value}
-use Rattle.gcr.specs.Codes.{coded}
-use Rattle.track.specs.Shown.{shown, rest, Fine}
-use Rattle.track.specs.Circles.{circle_of, turned, ones, before, start, frames_from}
+use Rattle.std.proofs.Common.{◌≡◌, ◌-◌, length, refl, ap, arith}
+use Rattle.track.specs.Circles.{circle_of, frames_from}
 use Rattle.track.proofs.Circles.{length_circle}
 use Rattle.track.proofs.window.Frames.new.Goals as goal
 

@@ -1,6 +1,5 @@
-use Rattle.std.proofs.Common.{◌≡◌, ℕ, suc, ◌+◌, ◌-◌, ◌*◌, ◌^◌, ◌<◌, ◌≤◌, Bool, true, false, cond, not, ◌&&◌, List, [], ◌∷◌, ◌++◌, length, get_or, take, drop, Some, None, sym, refl, ap, ◌∙◌, arith, rules}
-use Rattle.track.specs.Shown.{shown, rest, Fine}
-use Rattle.track.specs.Circles.{circle_of, turned, ones, before, start, frames_from}
+use Rattle.std.proofs.Common.{ℕ, ◌+◌, ◌-◌, Bool, List, [], ◌∷◌, ◌++◌, length, take, sym, ap, ◌∙◌, arith}
+use Rattle.track.specs.Circles.{circle_of, turned, start, frames_from}
 use Rattle.track.proofs.Circles.{length_circle, len, frames_skip, frames_take, take_before, before_le}
 use Rattle.track.proofs.Turns.{passed_skip, passed_take}
 use Rattle.track.proofs.window.Frames.next.Goals as goal

@@ -1,4 +1,4 @@
-use Rattle.std.proofs.Common.{◌≡◌, ◌+◌, ◌-◌}
+use Rattle.std.proofs.Common.{◌≡◌, ◌-◌}
 use Rattle.track.specs.Shown.{rest, passed, whole}
 use Rattle.track.proofs.window.Frames.next.Given as goal
 

@@ -1,7 +1,6 @@
-use Rattle.std.proofs.Common.{◌≡◌, ℕ, suc, ◌+◌, ◌-◌, ◌*◌, ◌^◌, ◌<◌, ◌≤◌, Bool, true, false, cond, not, ◌&&◌, List, [], ◌∷◌, ◌++◌, length, get_or, take, drop, sym, refl, ap, ◌∙◌, arith, rules}
-use Rattle.gcr.specs.Bits.{bits_of, value}
-use Rattle.gcr.specs.Codes.{coded, byte_of}
-use Rattle.track.specs.Circles.{circle_of, turned, ones, before, start}
+use Rattle.std.proofs.Common.{◌≡◌, ℕ, ◌+◌, ◌*◌, Bool, false, cond, take, drop, sym, ap, ◌∙◌, arith}
+use Rattle.gcr.specs.Bits.{value}
+use Rattle.gcr.specs.Codes.{byte_of}
 use Rattle.std.proofs.lemmas.List.{length-drop, get_or-drop}
 use Rattle.track.specs.Headers.{byte_at}
 use Rattle.track.specs.Shown.{shown}

@@ -1,4 +1,4 @@
-use Rattle.std.proofs.Common.{◌≡◌, ◌+◌, ◌-◌, ◌^◌, ◌<◌, length, take, drop}
+use Rattle.std.proofs.Common.{◌≡◌, ◌^◌, ◌<◌, take, drop}
 use Rattle.gcr.specs.Bits.{value}
 use Rattle.track.specs.Shown.{shown}
 use Rattle.track.proofs.window.Window.byte.Given as goal
