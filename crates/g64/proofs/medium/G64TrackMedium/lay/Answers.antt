@@ -31,10 +31,11 @@ invariant_of-self c =
     let f : List ℕ = c.args.self.now.image.items in
     let t : ℕ = c.args.track in
     let same = lent c.args.self.now.image.len c.lay_stored.new.file f c.as_mut_slice.result.now c.lay_stored.auto.file c.as_mut_slice.ensures.len in
-    let a = accepted c.args.self.now.protected f t c.args.start c.args.count (length c.args.bytes.now) c.bits_on-size.result c.bits_on-size.ensures c.in_ok-lay_check.ensures in (
-      subst Bytes (sym same) c.lay_stored.ensures.small,
-      (c.args.self.now.known ∙ (is_given f t a.has).sound_file ∙ sym (ap valid same ∙ c.lay_stored.ensures.valid), tt),
-    )
+    let a = accepted c.args.self.now.protected f t c.args.start c.args.count (length c.args.bytes.now) c.bits_on-size.result c.bits_on-size.ensures c.in_ok-lay_check.ensures in
+    record {
+      small = subst Bytes (sym same) c.lay_stored.ensures.small;
+      known = c.args.self.now.known ∙ (is_given f t a.has).sound_file ∙ sym (ap valid same ∙ c.lay_stored.ensures.valid);
+    }
 
 pub returns : goal.returns
 returns c =
