@@ -1,5 +1,5 @@
 -- The check of a volume: its layout, or the first fault.
-use Rattle.std.specs.Prelude.{ℕ, ◌*◌, Bool, cond, List, length, Ok, Err, Result, ◌==◌, slice_index}
+use Rattle.std.specs.Prelude.{ℕ, ◌*◌, cond, List, length, Ok, Err, Result, ◌==◌, slice_index}
 use Rattle.disk.specs.declared.cause.Cause.TheVariants.{BadStructure, NotDos}
 use Rattle.disk.specs.declared.refusal.Refusal.{Refusal}
 use Rattle.disk.specs.Geometry.{Place}

@@ -1,3 +1,2 @@
 // Whether a volume is sound, and who keeps each block of it.
 #![tactic(auto)]
-
