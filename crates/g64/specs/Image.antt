@@ -1,8 +1,9 @@
 -- What a G64 image holds, and the check of one.
 use Rattle.std.specs.Prelude.{ℕ, ◌+◌, Bool, cond, not, ◌&&◌, List, [], take, drop, Ok, Err, Result, ◌==◌}
 use Rattle.disk.specs.declared.cause.Cause.TheVariants.{BadImage}
+use Rattle.disk.specs.declared.layer.Layer.TheVariants.{Image}
 use Rattle.disk.specs.declared.refusal.Refusal.{Refusal}
-use Rattle.disk.specs.Refusals.{by_image}
+use Rattle.disk.specs.Refusals.{refusal}
 use Rattle.gcr.specs.Bits.{bits_of}
 use Rattle.track.specs.Fetching.{on_disk}
 use Rattle.g64.specs.Layout.{offset_of, length_of, valid}
@@ -21,4 +22,4 @@ circle_on f t = bits_of (stored_on f t)
 
 -- the check of a file
 abbrev pub checked : List ℕ → Result Unit Refusal
-checked f = cond (valid f) (Ok tt) (Err (by_image BadImage))
+checked f = cond (valid f) (Ok tt) (Err (refusal BadImage Image (0, 0)))

@@ -56,6 +56,13 @@ impl G64 {
         Ok(G64::new(image, protected))
     }
 
+    // Whether no track may be written.
+    pub fn is_protected(&self) -> bool
+        ensures { result ≡ self.now.protected }
+    {
+        self.protected
+    }
+
     // Hands the bytes back.
     pub fn into_bytes(self) -> Vec<u8>
         ensures { result ≡ self.image }
