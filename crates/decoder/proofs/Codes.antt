@@ -1,5 +1,5 @@
 -- The coded bits of a data block: as many as they are, what they begin and end with, and what they read as.
-use Rattle.std.proofs.Common.{◌≡◌, ℕ, zero, suc, ◌+◌, ◌-◌, ◌*◌, ◌/◌, ◌%◌, ◌^◌, ◌<◌, ◌≤◌, Bool, true, false, cond, not, ◌&&◌, eqb, leb, ◌⊎◌, List, [], ◌∷◌, ◌++◌, length, get_or, take, drop, Some, None, Ok, fold, Option, sym, refl, ap, ◌∙◌, subst, inl, inr, ⊎_elim, arith}
+use Rattle.std.proofs.Common.{◌≡◌, ℕ, zero, suc, ◌+◌, ◌*◌, ◌/◌, ◌%◌, ◌<◌, ◌≤◌, Bool, true, false, not, ◌&&◌, eqb, List, [], ◌∷◌, ◌++◌, length, get_or, drop, Some, None, Ok, fold, Option, sym, refl, ap, ◌∙◌, ⊎_elim, arith}
 use lib.Bits.{bit_xor, xor_lt}
 use Rattle.std.specs.List.{flat_map, AllByRecursion}
 use Rattle.std.proofs.lemmas.List.{append_assoc, length-append, take_at, drop_at}
@@ -8,7 +8,6 @@ use Rattle.std.proofs.lemmas.Bool.{cases_Bool, true≢false, false≢true, cond-
 use Rattle.gcr.specs.Bits.{bits, value}
 use Rattle.gcr.specs.Codes.{codes, code_of, ten, byte_of, coded, bytes_in, if_some}
 use Rattle.gcr.specs.Sums.{xor_all}
-use Rattle.gcr.proofs.Bits.{length_bits}
 use Rattle.track.specs.Circles.{ones, before}
 use Rattle.track.specs.Headers.{byte_at, head_of, header}
 use Rattle.track.specs.Places.{last_or}

@@ -1,14 +1,11 @@
 -- Reading what was fetched is reading the circle.
-use Rattle.std.proofs.Common.{◌≡◌, ℕ, ◌<◌, ◌≤◌, min, Bool, true, false, cond, ltb, leb, List, ◌++◌, length, Ok, Err, Result, sym, refl, ap, ◌∙◌, arith}
+use Rattle.std.proofs.Common.{◌≡◌, ℕ, ◌≤◌, min, Bool, true, List, length, Ok, Err, Result, sym, refl, ap, ◌∙◌, arith}
 use Rattle.std.proofs.lemmas.Bool.{true≢false}
 use Rattle.std.proofs.lemmas.Bool.Decides.{nat_tests}
 use Rattle.disk.specs.declared.cause.Cause.{Cause}
-use Rattle.disk.specs.declared.cause.Cause.TheVariants.{NoSuchBlock}
-use Rattle.disk.specs.declared.layer.Layer.TheVariants.{Sector}
 use Rattle.disk.specs.declared.refusal.Refusal.{Refusal}
-use Rattle.disk.specs.Geometry.{Place, legal, sectors_on}
-use Rattle.disk.specs.Refusals.{refusal}
-use Rattle.sector.specs.Source.{Reading, fault_at, reading, loaded, answered, lent}
+use Rattle.disk.specs.Geometry.{Place, legal}
+use Rattle.sector.specs.Source.{fault_at, reading, loaded, answered, lent}
 use Rattle.track.specs.Circles.{circle_of, frames}
 use Rattle.track.specs.Reading.{read_block, reading_result, reading_buffer}
 use Rattle.track.specs.Fetching.{on_disk, fetch_result, fetch_buffer}

@@ -1,7 +1,7 @@
 -- The write answers of the decoder, and its blocks after a write.
-use Rattle.std.proofs.Common.{◌≡◌, ℕ, ◌+◌, ◌*◌, ◌<◌, ◌≤◌, Bool, true, false, cond, ◌&&◌, eqb, ltb, leb, ◌⊎◌, List, length, take, is_ok, Ok, Err, Result, sym, refl, ap, ◌∙◌, subst, inl, inr, ⊎_elim, arith}
+use Rattle.std.proofs.Common.{◌≡◌, ℕ, ◌*◌, Bool, true, false, cond, ◌&&◌, eqb, ltb, leb, List, length, take, is_ok, Ok, Err, Result, sym, refl, ap, ◌∙◌, subst, ⊎_elim, arith}
 use Rattle.std.proofs.lemmas.List.{take_all}
-use Rattle.std.proofs.lemmas.Bool.{cond-true, cond-false, cases_Bool, and_from, and_parts, lt-ltb, le-leb, eqb-true, eq-eqb}
+use Rattle.std.proofs.lemmas.Bool.{cond-true, cond-false, cases_Bool, and_from, lt-ltb, le-leb, eqb-true, eq-eqb}
 use Rattle.disk.specs.declared.cause.Cause.{Cause}
 use Rattle.disk.specs.declared.cause.Cause.TheVariants.{NoSuchBlock, Protected}
 use Rattle.disk.specs.declared.layer.Layer.TheVariants.{Sector}
@@ -11,11 +11,10 @@ use Rattle.disk.specs.Geometry.{Place, legal, same_place}
 use Rattle.disk.specs.Refusals.{refusal}
 use Rattle.gcr.specs.Bits.{bits_of}
 use Rattle.gcr.proofs.Bits.{length_bits_of}
-use Rattle.sector.specs.Source.{Disk, Reading, bytes, fault_at}
-use Rattle.sector.specs.Device.{Answer, free, barred, Answers, answering, allowed, written}
+use Rattle.sector.specs.Source.{Disk, bytes, fault_at}
+use Rattle.sector.specs.Device.{barred, Answers, answering, allowed, written}
 use Rattle.track.specs.Circles.{frames}
 use Rattle.track.specs.Fetching.{on_disk}
-use Rattle.track.specs.Headers.{place_is}
 use Rattle.track.specs.Laying.{laid_on, fits, lay_result, lay_circle}
 use Rattle.track.specs.Reading.{read_block}
 use Rattle.track.specs.Room.{room_for, FreeAt}
@@ -24,7 +23,7 @@ use Rattle.decoder.specs.Decoding.{reading_of, decoded}
 use Rattle.decoder.specs.Writing.{data_bits, answer_of, decoder_answers}
 use Rattle.decoder.specs.Laws.{Written}
 use Rattle.decoder.proofs.Decodes.{on_disk_legal}
-use Rattle.decoder.proofs.Writes.{writing, write_fits, length_data_bits}
+use Rattle.decoder.proofs.Writes.{writing, write_fits}
 
 -- off the disk
 pub off_disk : (a : Answers) (p : Place) → legal p ≡ false → Err (refusal NoSuchBlock Sector p) ≡ allowed a p

@@ -1,7 +1,7 @@
 -- The bytes of a data block, and their groups coded one by one.
-use Rattle.std.proofs.Common.{◌≡◌, ℕ, zero, suc, ◌+◌, ◌-◌, ◌*◌, ◌<◌, ◌≤◌, Bool, true, false, cond, List, [], ◌∷◌, ◌++◌, length, get_or, take, drop, set, replicate, sym, refl, ap, ◌∙◌, arith}
+use Rattle.std.proofs.Common.{◌≡◌, ℕ, suc, ◌+◌, ◌-◌, ◌*◌, ◌<◌, ◌≤◌, Bool, List, [], ◌∷◌, ◌++◌, length, get_or, take, set, replicate, sym, refl, ap, ◌∙◌, arith}
 use Rattle.std.specs.List.{flat_map}
-use Rattle.std.proofs.lemmas.List.{append_assoc, length-append, length-set, length-take-le, set_at, take_more, take_more_set, take-set, take_all}
+use Rattle.std.proofs.lemmas.List.{append_assoc, length-append, length-set, length-take-le, set_at, take_more, take_more_set, take_all}
 use Rattle.gcr.specs.Bits.{bits, bits_of}
 use Rattle.gcr.specs.Codes.{ten}
 use Rattle.gcr.specs.Sums.{xor_all}

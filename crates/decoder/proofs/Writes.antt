@@ -1,16 +1,15 @@
 -- A block written where its data goes: it reads as written, and all else as before.
-use Rattle.std.proofs.Common.{◌≡◌, ℕ, zero, suc, ◌+◌, ◌-◌, ◌<◌, ◌≤◌, Bool, true, false, cond, eqb, ltb, ◌⊎◌, List, [], ◌∷◌, ◌++◌, length, get_or, drop, Some, None, Ok, Err, Option, Result, sym, refl, ap, ◌∙◌, subst, inl, inr, ⊎_elim, arith}
+use Rattle.std.proofs.Common.{◌≡◌, ℕ, ◌-◌, ◌<◌, ◌≤◌, Bool, true, false, eqb, ltb, List, [], ◌∷◌, ◌++◌, length, drop, Some, None, Ok, Err, Option, sym, refl, ap, ◌∙◌, subst, ⊎_elim, arith}
 use Rattle.std.proofs.ByRecursion.{All-from_get_or}
 use Rattle.std.proofs.lemmas.List.{append_assoc, length-append, length-drop, drop-append-le, drop_at}
 use Rattle.std.proofs.lemmas.Bool.{cond-true, cond-false, cases_Bool, cases_lt, and_parts, eqb-true, lt-ltb, le-ltb}
-use Rattle.disk.specs.declared.cause.Cause.{Cause}
 use Rattle.disk.specs.declared.cause.Cause.TheVariants.{ShortFrame}
 use Rattle.disk.specs.Bytes.{Bytes}
 use Rattle.track.specs.Circles.{turned, start, before, frames, tens, cut}
 use Rattle.track.specs.Fetching.{laid}
 use Rattle.track.specs.Headers.{header, place_is, sound_head}
 use Rattle.track.specs.Laying.{laid_on}
-use Rattle.track.specs.Places.{last_or, data_place}
+use Rattle.track.specs.Places.{last_or}
 use Rattle.track.specs.Reading.{sought, sought_data, read_block, data_of, Sought, at, missing}
 use Rattle.track.specs.Room.{room, sought_room, room_for, FreeAt}
 use Rattle.track.proofs.Circles.{length_turned}
@@ -18,11 +17,11 @@ use Rattle.track.proofs.Turns.{sought_turned}
 use Rattle.laying.specs.Laws.{Framed, SameSyncs}
 use Rattle.laying.proofs.Fronts.{first_frame, opened}
 use Rattle.laying.proofs.Frames.{framed, framed_rest, framed_join}
-use Rattle.laying.proofs.Replaces.{Replaced, replaced, syncs_stay}
+use Rattle.laying.proofs.Replaces.{replaced, syncs_stay}
 use Rattle.decoder.specs.Writing.{data_bits}
-use Rattle.decoder.specs.Laws.{Written, Writing}
+use Rattle.decoder.specs.Laws.{Writing}
 use Rattle.decoder.proofs.Codes.{Lays, lays}
-use Rattle.decoder.proofs.Swaps.{found_first, Swapped, swapped}
+use Rattle.decoder.proofs.Swaps.{found_first, swapped}
 
 room_free : (o : Option (Bool × (ℕ × ℕ))) (n : ℕ) → room o n ≡ Ok tt → (o ≡ None) × (2600 ≤ n)
 room_free (Some h) n e = absurd (let y : ◌≡◌ {A = ℕ} 0 1 = cc in let z : ⊥ = omega arith in z)

@@ -1,7 +1,6 @@
 -- What the circles of tracks say as blocks.
 use Rattle.std.specs.Prelude.{ℕ, Bool, List, Ok, Err, Result}
 use Rattle.disk.specs.declared.cause.Cause.{Cause}
-use Rattle.disk.specs.Geometry.{Place}
 use Rattle.sector.specs.Source.{Reading, bytes, fault, Disk}
 use Rattle.track.specs.Circles.{frames}
 use Rattle.track.specs.Reading.{read_block}

@@ -1,19 +1,18 @@
 -- A block that was read has 256 bytes.
-use Rattle.std.specs.Prelude.{◌≡◌, ℕ, zero, suc, ◌+◌, ◌-◌, ◌*◌, ◌/◌, ◌%◌, ◌<◌, ◌≤◌, Bool, true, false, cond, List, [], ◌∷◌, ◌++◌, length, take, drop, Some, None, Ok, Err, Option, Result, ◌==◌, nat_le, nat_lt, slice_index, refl}
+use Rattle.std.specs.Prelude.{◌≡◌, ℕ, zero, suc, ◌+◌, ◌*◌, ◌/◌, ◌%◌, ◌<◌, Bool, true, false, cond, List, [], ◌∷◌, length, take, drop, Some, None, Ok, Err, Option, ◌==◌, nat_le, nat_lt, slice_index, refl}
 use Rattle.std.proofs.Common.{arith, sym, ap, subst, ◌∙◌}
 use Rattle.std.proofs.lemmas.List.{length-take-le}
 use Rattle.std.proofs.lemmas.Bool.{cond-true, cond-false}
-use Rattle.disk.specs.declared.cause.Cause.{Cause}
-use Rattle.disk.specs.declared.cause.Cause.TheVariants.{NoData, BadChecksum, BadCode, ShortFrame}
+use Rattle.disk.specs.declared.cause.Cause.TheVariants.{NoData, BadChecksum, ShortFrame}
 use Rattle.disk.specs.Bytes.{Bytes}
 use Rattle.disk.proofs.ByteLists.{take_bytes}
-use Rattle.sector.specs.Source.{Reading, bytes, fault, Whole}
+use Rattle.sector.specs.Source.{Whole}
 use Rattle.gcr.specs.Bits.{value}
 use Rattle.gcr.specs.Codes.{find_from, nibble_of, codes, if_some, byte_of, coded, bytes_in}
 use Rattle.gcr.specs.Sums.{xor_all}
 use Rattle.track.specs.Circles.{frames}
 use Rattle.track.specs.Headers.{byte_at}
-use Rattle.track.specs.Reading.{Sought, at, missing, sought, summed, is_data, data_of, sought_data, read_block}
+use Rattle.track.specs.Reading.{Sought, at, missing, sought, summed, is_data, data_of, sought_data}
 use Rattle.decoder.specs.Decoding.{reading_of, decoded}
 
 none_some : {X : Type 0} {x : X} → ◌≡◌ {A = Option X} None (Some x) → ⊥

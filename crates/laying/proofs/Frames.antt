@@ -1,8 +1,8 @@
 -- Bits that can stand as a frame.
-use Rattle.std.proofs.Common.{◌≡◌, ℕ, zero, suc, ◌+◌, ◌-◌, ◌<◌, ◌≤◌, Bool, true, false, cond, not, ◌&&◌, ◌⊎◌, List, [], ◌∷◌, ◌++◌, length, get_or, take, drop, sym, refl, ap, ◌∙◌, subst, inl, inr, ⊎_elim, arith}
-use Rattle.std.proofs.lemmas.List.{append_assoc, append-nil, length-append, get_or-drop, get_or_at, length-drop, length-take-le}
+use Rattle.std.proofs.Common.{◌≡◌, ℕ, zero, suc, ◌+◌, ◌-◌, ◌<◌, ◌≤◌, Bool, true, false, not, ◌&&◌, List, [], ◌∷◌, ◌++◌, length, get_or, take, drop, sym, refl, ap, ◌∙◌, ⊎_elim, arith}
+use Rattle.std.proofs.lemmas.List.{append_assoc, length-append, get_or-drop, get_or_at, length-drop, length-take-le}
 use Rattle.std.proofs.lemmas.Bool.{cases_Bool, cases_lt, true≢false, false≢true, cond-false}
-use Rattle.track.specs.Circles.{turned, ones, start, before, tens}
+use Rattle.track.specs.Circles.{ones, start, before, tens}
 use Rattle.track.specs.Places.{last_or}
 use Rattle.track.proofs.Cuts.{ones_front, ones_false}
 use Rattle.track.proofs.Turns.{drop_in_take}

@@ -1,13 +1,11 @@
 -- Other bits in the place of a frame: every sync and every other frame stays.
-use Rattle.std.proofs.Common.{◌≡◌, ℕ, zero, suc, ◌+◌, ◌-◌, ◌<◌, ◌≤◌, Bool, true, false, cond, not, ◌&&◌, ◌⊎◌, List, [], ◌∷◌, ◌++◌, length, get_or, take, drop, sym, refl, ap, ◌∙◌, subst, inl, inr, ⊎_elim, arith}
+use Rattle.std.proofs.Common.{◌≡◌, ℕ, zero, suc, ◌+◌, ◌-◌, ◌<◌, ◌≤◌, Bool, true, false, List, [], ◌∷◌, ◌++◌, length, get_or, take, drop, sym, refl, ap, ◌∙◌, subst, ⊎_elim, arith}
 use lib.Seq.{take-append-add}
 use Rattle.std.proofs.lemmas.List.{append_assoc, append-nil, length-append, length-drop, length-take-le, drop_at, drop-drop, drop-append-le, take-append-le, take-append-drop, get_or-append_right, drop_more}
-use Rattle.std.proofs.lemmas.Bool.{cases_Bool, cases_lt, cases_eq, true≢false, false≢true}
+use Rattle.std.proofs.lemmas.Bool.{cases_lt, cases_eq, true≢false, false≢true}
 use Rattle.track.specs.Circles.{turned, ones, start, before, frames, tens, cut}
 use Rattle.track.specs.Fetching.{laid}
 use Rattle.track.specs.Laying.{laid_on}
-use Rattle.track.specs.Places.{last_or}
-use Rattle.track.specs.Reading.{head_or}
 use Rattle.track.proofs.Circles.{length_turned}
 use Rattle.track.proofs.Cuts.{ones_all, before_cut}
 use Rattle.track.proofs.Starts.{turned_over, turned_not}

@@ -1,9 +1,9 @@
-use Rattle.std.proofs.Common.{◌≡◌, ℕ, ◌*◌, ◌≤◌, List, length, take, sym, ap, ◌∙◌, arith, rules}
+use Rattle.std.proofs.Common.{◌≡◌, ◌*◌, length, sym, ap, ◌∙◌, arith, rules}
 use Rattle.std.specs.List.{flat_map}
 use Rattle.std.proofs.lemmas.List.{take_all, length-set}
 use Rattle.gcr.specs.Bits.{bits_of}
 use Rattle.gcr.specs.Codes.{ten}
-use Rattle.decoder.specs.Writing.{data_bytes, data_bits}
+use Rattle.decoder.specs.Writing.{data_bits}
 use Rattle.decoder.proofs.Groups.{group_more, length_data}
 use Rattle.decoder.proofs.coder.data_block.Goals as goal
 

@@ -2,7 +2,6 @@ use Rattle.std.proofs.Common.{◌≡◌, ◌*◌, length, take}
 use Rattle.std.specs.List.{flat_map}
 use Rattle.gcr.specs.Bits.{bits_of}
 use Rattle.gcr.specs.Codes.{ten}
-use Rattle.decoder.specs.Writing.{data_bytes}
 use Rattle.decoder.proofs.coder.data_block.Given as goal
 
 abbrev pub invariant-loop-k : goal.invariant-loop-k

@@ -1,4 +1,4 @@
-use Rattle.std.proofs.Common.{◌≡◌, ℕ, ◌≤◌, arith}
+use Rattle.std.proofs.Common.{arith}
 use Rattle.decoder.proofs.Groups.{plain_more, plain_done}
 use Rattle.decoder.proofs.coder.plain_bytes.Goals as goal
 
