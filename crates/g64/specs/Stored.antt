@@ -3,7 +3,7 @@ use Rattle.std.specs.Prelude.{◌≡◌, ℕ, suc, ◌+◌, ◌<◌, ◌≤◌, 
 use Rattle.std.proofs.Common.{arith, sym, ap, subst, ◌∙◌, inl, inr}
 use borrow.Rule.Slice.PartMut.{post_of}
 use Rattle.std.proofs.lemmas.List.{length-take, get_or_past}
-use Rattle.std.proofs.lemmas.Bool.{and_parts, or_cases, and_from, and_left, and_right, not_from_true, not_from_false, leb-true, le-leb, eq-eqb, not-true, cond-true, cond-false, true≢false}
+use Rattle.std.proofs.lemmas.Bool.{and_parts, or_cases, and_from, and_left, and_right, not_from_true, not_from_false, leb-true, le-leb, eq-eqb, not-true, true≢false}
 use Rattle.gcr.specs.Bits.{bits_of}
 use Rattle.gcr.proofs.Bits.{length_bits_of}
 use Rattle.gcr.proofs.Values.{value_bits}

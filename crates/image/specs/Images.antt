@@ -42,6 +42,16 @@ pub record Gives (f : List ℕ) (protected : Bool) (i : Image) : Type 0 where
 abbrev pub checked_as : List ℕ → Result Unit Refusal
 checked_as f = cond (is_capture f) (checked f) (checked_length (length f))
 
+-- an opened image gives each block of its file; an image that is not opened is refused by its check
+abbrev pub opened_by : Result Unit Refusal → List ℕ → Result Image Refusal → Type 0
+opened_by (Ok x) f (Ok i) = (p : Place) → loaded (contents_of i) p ≡ loaded (disk_of f) p
+opened_by (Ok x) f (Err e) = ⊥
+opened_by (Err e) f (Ok i) = ⊥
+opened_by (Err e) f (Err g) = g ≡ e
+
+abbrev pub opened_as : List ℕ → Result Image Refusal → Type 0
+opened_as f r = opened_by (checked_as f) f r
+
 -- the bytes of an image's file, and whether they are taken for its kind
 abbrev pub file_of : Image → List ℕ
 file_of (Blocks d) = vec_items d.image

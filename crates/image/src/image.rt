@@ -5,7 +5,7 @@ ghost use Rattle.std.specs.Result.{result_map_both};
 ghost use Rattle.disk.specs.Geometry.{Place as Position};
 ghost use Rattle.disk.specs.Opening.{opened};
 ghost use Rattle.sector.specs.Source.{loaded};
-ghost use Rattle.image.specs.Images.{contents_of, answers_as, disk_of, checked_as, Gives, handed_back};
+ghost use Rattle.image.specs.Images.{contents_of, answers_as, disk_of, checked_as, opened_as, Gives, handed_back};
 ghost use Rattle.image.specs.declared.image.Image.TheVariants.{Blocks, Capture};
 ghost use Rattle.d64.specs.Blocks.{whole_block};
 ghost use Rattle.decoder.specs.Wholes.{decoded_whole};
@@ -42,7 +42,8 @@ pub fn is_capture(file: &[u8]) -> bool
 
 impl Image {
     pub fn open(file: Vec<u8>, protected: bool) -> Result<Image, Refusal>
-        ensures { opened (checked_as file.items) (Gives file.items protected) result }
+        ensures gives { opened (checked_as file.items) (Gives file.items protected) result }
+        ensures blocks { opened_as file.items result }
     {
         if is_capture(file.as_slice()) {
             let capture = G64::open(file, protected)?;

@@ -1,5 +1,4 @@
 use Rattle.std.proofs.Common.{◌+◌, leb, sym, ◌∙◌, inl, inr, ⊎_elim, arith}
-use Rattle.g64.specs.Layout.{length_of}
 use Rattle.g64.specs.Tests.{apart_none, apart_first, apart_second}
 use Rattle.g64.proofs.layout.are_apart.Goals as goal
 

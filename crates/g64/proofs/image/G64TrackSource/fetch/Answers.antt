@@ -1,4 +1,4 @@
-use Rattle.std.proofs.Common.{◌≡◌, ℕ, ◌-◌, ◌*◌, ◌≤◌, List, length, sym, ap, ◌∙◌, arith}
+use Rattle.std.proofs.Common.{◌≡◌, ℕ, ◌-◌, ◌*◌, List, length, sym, ap, ◌∙◌, arith}
 use Rattle.gcr.proofs.Bits.{length_bits_of}
 use Rattle.track.specs.Fetching.{laid}
 use Rattle.g64.specs.Image.{stored_on, circle_on}

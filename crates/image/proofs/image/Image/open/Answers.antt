@@ -16,4 +16,7 @@ returns-in_ok-capture c =
     let G = captured (vec_items c.args.file) c.args.protected c.new-then-is_capture.result k
     (ap (λ x. vec_items x.source.image) d ∙ ap (λ (x : G64). vec_items x.image) n.kept ∙ i)
     (ap (λ x. x.source.protected) d ∙ ap (λ (x : G64). x.protected) n.kept ∙ o.1.1) in
-    rw (k, o.0) G
+    rw (k, o.0) record {
+      gives = G;
+      blocks = G.blocks;
+    }
