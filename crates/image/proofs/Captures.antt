@@ -1,5 +1,5 @@
 -- A capture read through the aligner gives the blocks of its circles, and writes them as they allow.
-use Rattle.std.proofs.Common.{◌≡◌, ℕ, ◌≤◌, Bool, true, false, cond, List, length, get_or, Ok, Err, vec_items, Result, sym, refl, ap, ◌∙◌, inl, inr, arith}
+use Rattle.std.proofs.Common.{◌≡◌, ℕ, Bool, true, cond, List, length, get_or, Ok, Err, vec_items, Result, sym, refl, ap, ◌∙◌, inl, inr, arith}
 use Rattle.std.proofs.lemmas.Bool.{cases_lt, cond-true}
 use Rattle.disk.specs.declared.cause.Cause.TheVariants.{NoSuchBlock, Protected, BadImage}
 use Rattle.disk.specs.declared.layer.Layer.TheVariants.{Sector}

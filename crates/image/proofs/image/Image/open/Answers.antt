@@ -1,4 +1,4 @@
-use Rattle.std.proofs.Common.{◌≡◌, ℕ, true, vec_items, sym, refl, ap, ◌∙◌}
+use Rattle.std.proofs.Common.{◌≡◌, true, vec_items, sym, ap, ◌∙◌}
 use Rattle.g64.specs.declared.image.G64.{G64}
 use Rattle.g64.specs.Image.{checked}
 use Rattle.disk.proofs.Openings.{opened_ok}
