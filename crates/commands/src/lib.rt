@@ -6,4 +6,6 @@ pub mod command;
 pub mod dump;
 pub mod name;
 pub mod number;
+#[cfg(test)]
+mod tests;
 pub mod verb;
