@@ -8,8 +8,6 @@ pub enum Failure<'a> {
     Refused(Refusal),
     CannotRead(&'a str, io::Error),
     CannotWrite(&'a str, io::Error),
-    // a file of that many bytes
-    NoBlock(&'a str, usize),
     Failed(io::Error),
 }
 
@@ -44,9 +42,6 @@ pub fn report(rt: &HostRuntime, outcome: Result<(), Failure<'_>>) -> Result<(), 
         Failure::CannotRead(path, error) => eprintln!(rt; "namohike: cannot read {path}: {error}"),
         Failure::CannotWrite(path, error) => eprintln!(rt;
             "namohike: cannot write {path}: {error}"
-        ),
-        Failure::NoBlock(path, length) => eprintln!(rt;
-            "namohike: a block has 256 bytes, and {path} has {length}"
         ),
         Failure::Failed(error) => eprintln!(rt; "namohike: {error}"),
     };

@@ -2,12 +2,8 @@
 #![tactic(auto)]
 
 mod failure;
-mod put;
-mod replace;
 
 use crate::failure::*;
-use crate::put::*;
-use crate::replace::*;
 use commands::account::*;
 use commands::command::*;
 use commands::dump::*;
@@ -16,6 +12,7 @@ use disk::place::*;
 use files::extract::*;
 use image::image::*;
 use sector::source::*;
+use std::process::ExitCode;
 use std::{env, fs, io};
 use tables::survey::*;
 
@@ -23,15 +20,6 @@ fn read_disk<'a>(rt: &HostRuntime, image: &'a str) -> Result<Image, Failure<'a>>
     match fs::read(rt, image) {
         Ok(bytes) => Ok(Image::open(bytes, true)?),
         Err(error) => Err(Failure::CannotRead(image, error)),
-    }
-}
-
-// A plain file is replaced as a whole; a link or a device is written straight.
-fn write_out(rt: &HostRuntime, out: &str, bytes: &[u8]) -> io::Result<()> {
-    if is_replaceable(rt, out) {
-        replace(rt, out, bytes)
-    } else {
-        fs::write(rt, out, bytes)
     }
 }
 
@@ -46,7 +34,7 @@ fn extract_file<'a>(
     let extent = measure(&disk, name.bytes.as_slice())?;
     let mut buffer = vec![in rt.alloc(); 0u8; extent.bytes]?;
     extract(&disk, name.bytes.as_slice(), buffer.as_mut_slice())?;
-    if let Err(error) = write_out(rt, out, buffer.as_slice()) {
+    if let Err(error) = fs::write(rt, out, buffer.as_slice()) {
         return Err(Failure::CannotWrite(out, error));
     }
     let account = Account {
@@ -105,7 +93,6 @@ fn obey<'a>(rt: &HostRuntime, command: Command<'a>) -> Result<(), Failure<'a>> {
     match command {
         Command::Extract { image, name, out } => extract_file(rt, image, name, out),
         Command::Block { image, place } => print_block(rt, image, place),
-        Command::Put { image, place, file } => put_block(rt, image, place, file),
         Command::Survey { image } => survey_disk(rt, image),
         Command::Help => Ok(println!(rt; "{}", Usage)?),
     }
@@ -131,12 +118,17 @@ fn words_given(rt: &HostRuntime) -> io::Result<Vec<String>> {
     Ok(words)
 }
 
-fn main(rt: HostRuntime) -> Result<(), Unsuccessful> {
-    match words_given(&rt) {
+// Why a run was unsuccessful has been said by then.
+fn main(rt: HostRuntime) -> ExitCode {
+    let outcome = match words_given(&rt) {
         Ok(words) => run(&rt, words.as_slice()),
         Err(error) => {
             let _ = eprintln!(rt; "namohike: {error}");
             Err(Unsuccessful)
         }
+    };
+    match outcome {
+        Ok(()) => ExitCode::SUCCESS,
+        Err(Unsuccessful) => ExitCode::FAILURE,
     }
 }
