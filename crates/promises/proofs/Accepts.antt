@@ -1,12 +1,11 @@
 -- What an accepted check says of the disk.
-use Rattle.std.proofs.Common.{◌≡◌, ℕ, zero, suc, ◌+◌, ◌*◌, ◌<◌, ◌≤◌, Bool, true, false, cond, ◌&&◌, ◌||◌, eqb, ltb, ◌⊎◌, List, [], ◌∷◌, ◌++◌, length, get_or, Ok, Err, Result, sym, refl, ap, ◌∙◌, subst, inl, inr, arith}
-use Rattle.std.proofs.lemmas.Bool.{eqb-true, eq-eqb, ne_eqb, true≢false, false≢true, cond-true, cond-false, cases_Bool, cases_eq, cases_lt}
-use Rattle.std.proofs.lemmas.Bool.Decides.{nat_tests}
-use Rattle.disk.specs.declared.cause.Cause.TheVariants.{BadStructure, ForeignType, NotDos}
+use Rattle.std.proofs.Common.{◌≡◌, ℕ, zero, suc, ◌+◌, ◌*◌, ◌<◌, Bool, true, false, cond, eqb, List, [], length, get_or, Ok, Err, Result, sym, refl, ap, ◌∙◌, subst, inl, inr, arith}
+use Rattle.std.proofs.lemmas.Bool.{eqb-true, eq-eqb, ne_eqb, true≢false, cases_eq, cases_lt}
+use Rattle.disk.specs.declared.cause.Cause.TheVariants.{BadStructure, NotDos}
 use Rattle.disk.specs.declared.refusal.Refusal.{Refusal}
 use Rattle.disk.specs.Geometry.{Place, same_place, legal}
 use Rattle.disk.specs.Refusals.{by_volume}
-use Rattle.sector.specs.Source.{Disk, loaded, and_then}
+use Rattle.sector.specs.Source.{Disk, loaded}
 use Rattle.directory.specs.declared.kind.Status.{Status}
 use Rattle.directory.specs.declared.kind.Status.TheVariants.{Empty, Unclosed, Closed, Foreign}
 use Rattle.chains.specs.declared.route.Route.TheVariants.{File as FileRoute, Directory}
@@ -18,11 +17,11 @@ use Rattle.files.proofs.Extracts.{came_from}
 use Rattle.sound.specs.Owners.{Owners, claimed, first_owners}
 use Rattle.sound.specs.Maps.{map_agrees}
 use Rattle.sound.specs.Slots.{slot_place, slot_entry, met_before, file_kept, by_type, slot_kept, slots_kept}
-use Rattle.sound.specs.Layout.{File, Slot, none, file, Layout, chain_in, followed_or, slot_chain, slot_of_type, slot_in}
+use Rattle.sound.specs.Layout.{File, Slot, file, Layout, chain_in, followed_or, slot_chain, slot_in}
 use Rattle.sound.specs.Check.{dos, mapped, layout_of, checked_files, checked}
-use Rattle.promises.specs.Soundness.{Kept, Mapped, Sound}
+use Rattle.promises.specs.Soundness.{Kept, Sound}
 use Rattle.promises.proofs.Claims.{given_all, claimed_gives, not_on_route}
-use Rattle.promises.proofs.Slots.{slot_here, slot_past, Stands, Good, Filed, filed, met_each, is_named}
+use Rattle.promises.proofs.Slots.{slot_here, slot_past, Stands, Good, filed, met_each, is_named}
 use Rattle.promises.proofs.Maps.{map_bits, map_counts}
 
 -- a test that held

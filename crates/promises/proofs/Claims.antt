@@ -1,13 +1,12 @@
 -- Blocks given to one owner: which they were, and when it goes.
-use Rattle.std.proofs.Common.{◌≡◌, ℕ, zero, suc, ◌+◌, ◌<◌, ◌≤◌, Bool, true, false, cond, ◌&&◌, ◌||◌, eqb, ◌⊎◌, List, [], ◌∷◌, ◌++◌, Ok, Err, Result, sym, refl, ap, ◌∙◌, subst, inl, inr, arith}
+use Rattle.std.proofs.Common.{◌≡◌, ℕ, zero, suc, Bool, true, false, cond, ◌||◌, eqb, ◌⊎◌, List, [], ◌∷◌, ◌++◌, Ok, Err, sym, refl, ap, ◌∙◌, subst, inl, inr, arith}
 use mathlib.Core.Path.{fun_ext}
 use Rattle.std.proofs.lemmas.Bool.{eqb-true, eq-eqb, or_parts, or_from, or_cases, true≢false, cond-true, cond-false, cases_Bool}
 use Rattle.std.proofs.lemmas.Bool.Decides.{nat_tests}
 use Rattle.disk.specs.declared.cause.Cause.TheVariants.{BadStructure}
-use Rattle.disk.specs.declared.refusal.Refusal.{Refusal}
 use Rattle.disk.specs.Geometry.{Place, same_place}
 use Rattle.disk.specs.Refusals.{by_volume}
-use Rattle.sector.specs.Source.{Disk, and_then}
+use Rattle.sector.specs.Source.{Disk}
 use Rattle.chains.specs.declared.route.Route.{Route}
 use Rattle.chains.specs.declared.route.Link.TheVariants.{Stop, Next}
 use Rattle.chains.specs.declared.route.Link.{Link}

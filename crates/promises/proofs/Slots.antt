@@ -1,9 +1,8 @@
 -- Slots that were looked at: what is known of each.
-use Rattle.std.proofs.Common.{◌≡◌, ℕ, zero, suc, ◌+◌, ◌*◌, ◌<◌, ◌≤◌, Bool, true, false, cond, ◌&&◌, ◌||◌, eqb, ltb, ◌⊎◌, List, [], ◌∷◌, ◌++◌, length, Ok, Err, Result, sym, refl, ap, ◌∙◌, subst, inl, inr, arith}
+use Rattle.std.proofs.Common.{◌≡◌, ℕ, zero, suc, ◌*◌, ◌<◌, ◌≤◌, true, false, ltb, List, [], length, Ok, sym, refl, ap, ◌∙◌, subst, inl, inr, arith}
 use Rattle.std.specs.Str.{bytes_eq}
 use Rattle.std.proofs.lemmas.Slice.Eq.{bytes_eq-Decides}
-use Rattle.std.proofs.lemmas.Bool.{or_parts, or_from, and_parts, and_from, true≢false, false≢true, cond-true, cond-false, cases_Bool, cases_eq, cases_lt, lt-ltb, le-ltb}
-use Rattle.disk.specs.declared.refusal.Refusal.{Refusal}
+use Rattle.std.proofs.lemmas.Bool.{or_parts, or_from, and_parts, and_from, cond-true, cond-false, cases_eq, cases_lt, lt-ltb, le-ltb}
 use Rattle.disk.specs.Geometry.{Place}
 use Rattle.sector.specs.Source.{Disk}
 use Rattle.directory.specs.declared.kind.Status.{Status}
@@ -11,9 +10,9 @@ use Rattle.directory.specs.declared.kind.Status.TheVariants.{Empty, Unclosed, Cl
 use Rattle.directory.specs.Kinds.{filled}
 use Rattle.directory.specs.Entries.{is_of}
 use Rattle.chains.specs.declared.route.Route.TheVariants.{File as FileRoute}
-use Rattle.chains.specs.Chains.{Followed, chain_of}
+use Rattle.chains.specs.Chains.{chain_of}
 use Rattle.sound.specs.Slots.{slot_place, slot_block, slot_entry, met_before}
-use Rattle.sound.specs.Layout.{File, Slot, none, file, chain_in, slot_chain, file_at, stale_bytes, slot_of_type, slot_in}
+use Rattle.sound.specs.Layout.{File, none, file, slot_chain, file_at, slot_of_type, slot_in}
 
 module _ (d : Disk) (dirs : List Place) where
   -- a slot of the directory, by its type

@@ -1,15 +1,15 @@
 -- A sound volume in its own words, and that the check accepts just these.
-use Rattle.std.specs.Prelude.{◌≡◌, ℕ, ◌+◌, ◌*◌, ◌<◌, ◌≤◌, Bool, true, List, length, Ok, Result, ◌==◌, ◌≢◌, slice_index, slice_index_or}
+use Rattle.std.specs.Prelude.{◌≡◌, ℕ, ◌+◌, ◌*◌, ◌<◌, ◌≤◌, List, length, Ok, Result, ◌==◌, ◌≢◌, slice_index, slice_index_or}
 use Rattle.disk.specs.declared.refusal.Refusal.{Refusal}
 use Rattle.disk.specs.Geometry.{Place, same_place}
 use Rattle.sector.specs.Source.{Disk, loaded}
 use Rattle.directory.specs.declared.kind.Status.TheVariants.{Foreign}
 use Rattle.chains.specs.declared.route.Route.TheVariants.{File as FileRoute, Directory}
 use Rattle.chains.specs.Sets.{among}
-use Rattle.chains.specs.Chains.{Followed, chain_of}
+use Rattle.chains.specs.Chains.{chain_of}
 use Rattle.sound.specs.Maps.{nobody, map_bit, free_count}
 use Rattle.sound.specs.Slots.{slot_place, slot_entry}
-use Rattle.sound.specs.Layout.{File, Slot, file, Layout, chain_in, slot_in, slot_chain}
+use Rattle.sound.specs.Layout.{File, file, Layout, chain_in, slot_in, slot_chain}
 
 -- each block has one owner, since owners are a function of the place; this says which
 pub record Kept (L : Layout) : Type 0 where
