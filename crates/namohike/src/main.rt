@@ -118,16 +118,19 @@ fn words_given(rt: &HostRuntime) -> io::Result<Vec<String>> {
     Ok(words)
 }
 
-// Why a run was unsuccessful has been said by then.
-fn main(rt: HostRuntime) -> ExitCode {
-    let outcome = match words_given(&rt) {
-        Ok(words) => run(&rt, words.as_slice()),
+// The words' command is carried out, or why it is not has been said.
+fn carry_out(rt: &HostRuntime) -> Result<(), Unsuccessful> {
+    match words_given(rt) {
+        Ok(words) => run(rt, words.as_slice()),
         Err(error) => {
             let _ = eprintln!(rt; "namohike: {error}");
             Err(Unsuccessful)
         }
-    };
-    match outcome {
+    }
+}
+
+fn main(rt: HostRuntime) -> ExitCode {
+    match carry_out(&rt) {
         Ok(()) => ExitCode::SUCCESS,
         Err(Unsuccessful) => ExitCode::FAILURE,
     }
