@@ -3,9 +3,7 @@ ghost use Rattle.std.specs.Prelude.{◌≡◌, ℕ, ◌≤◌, if◌then◌else�
 ghost use Rattle.track.specs.Circles.{turned};
 ghost use Rattle.track.specs.Fetching.{on_disk};
 ghost use Rattle.track.specs.Aligning.{first_start};
-ghost use Rattle.aligner.specs.Turning.{unturned};
-ghost use Rattle.std.proofs.Common.{arith};
-ghost use Rattle.track.proofs.Circles.{length_turned};
+ghost use Rattle.aligner.specs.Turning.{unturned, turned_bounded};
 
 use disk::cause::*;
 use disk::refusal::*;
@@ -54,10 +52,7 @@ impl<S: TrackSource> Aligner<S> {
 impl<S: TrackSource> TrackSource for Aligner<S> {
     ghost circle = { λ a t. turned (slice_index a.starts t) (S.TrackSource.circle a.source t) };
 
-    ghost bounded = { λ s t.
-        let e = length_turned (slice_index s.starts t) (S.TrackSource.circle s.source t) in
-        let h = S.TrackSource.bounded s.source t in
-        omega arith };
+    ghost bounded = { λ s t. turned_bounded (slice_index s.starts t) (S.TrackSource.circle s.source t) (S.TrackSource.bounded s.source t) };
 
     fn fetch(&self, track: u8, buffer: &mut [u8]) -> Result<usize, Refusal> {
         let mut plain = [0; 8192];
