@@ -1,6 +1,6 @@
 // The one answer of every call that does not do what it was asked.
 ghost use Rattle.std.specs.Prelude.{◌≡◌, Some};
-ghost use Rattle.disk.specs.Refusals.{by_image, by_caller, by_volume};
+ghost use Rattle.disk.specs.Refusals.{by_image, by_caller, by_track, by_volume};
 ghost use Rattle.disk.specs.Words.{refusal_shown};
 
 use crate::cause::*;
@@ -35,6 +35,17 @@ impl Refusal {
             cause,
             layer: Layer::Caller,
             place: (0, 0),
+        }
+    }
+
+    // A fault of a track, at its sector 0.
+    pub fn by_track(cause: Cause, track: u8) -> Self
+        ensures { result ≡ by_track cause track }
+    {
+        Refusal {
+            cause,
+            layer: Layer::Track,
+            place: (track, 0),
         }
     }
 
