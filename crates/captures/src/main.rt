@@ -30,8 +30,8 @@ fn print_block(rt: &HostRuntime, disk: &Image, place: Place) -> anyhow::Result<(
             println!(rt; "{track:02}/{sector:02} {sum:08x}")?;
         }
         Err(refusal) => {
-            let number = refusal.cause.number();
-            let layer = refusal.layer.number();
+            let number = u8::from(refusal.cause);
+            let layer = u8::from(refusal.layer);
             println!(rt; "{track:02}/{sector:02} FAULT {number} {layer}")?;
         }
     }
@@ -39,8 +39,8 @@ fn print_block(rt: &HostRuntime, disk: &Image, place: Place) -> anyhow::Result<(
 }
 
 fn print_fault(rt: &HostRuntime, name: &str, refusal: Refusal) -> anyhow::Result<()> {
-    let number = refusal.cause.number();
-    let layer = refusal.layer.number();
+    let number = u8::from(refusal.cause);
+    let layer = u8::from(refusal.layer);
     let (track, sector) = refusal.place;
     println!(rt; "{name} FAULT {number} {layer} {track:02}/{sector:02}")?;
     Ok(())

@@ -1,7 +1,9 @@
-// Why a call refuses, and the number of each cause.
-ghost use Rattle.std.specs.Prelude.{◌≡◌};
+// Why a call refuses, with the number and the words of each cause.
+ghost use Rattle.std.specs.Prelude.{◌≡◌, Some};
 ghost use Rattle.disk.specs.Causes.{number_of};
 ghost use Rattle.disk.specs.Words.{words_of};
+
+use std::fmt;
 
 // One variant for each refusal, named for what happened, and one for the numbers of devices that are not ours.
 #[derive(Clone, Copy, Debug, PartialEq, Eq)]
@@ -31,11 +33,11 @@ pub enum Cause {
     Other(u8),
 }
 
-impl Cause {
-    pub fn number(self) -> u8
-        ensures { result ≡ number_of self }
-    {
-        match self {
+impl From<Cause> for u8 {
+    ghost from_gives = { λ cause number. number ≡ number_of cause };
+
+    fn from(cause: Cause) -> u8 {
+        match cause {
             Cause::NoHeader => 20,
             Cause::NoFrame => 21,
             Cause::NoData => 22,
@@ -61,12 +63,14 @@ impl Cause {
             Cause::Other(number) => number,
         }
     }
+}
 
-    // What happened, in a few words for a person.
-    pub fn words(self) -> &'static str
-        ensures { result.now ≡ words_of self }
-    {
-        match self {
+// What happened, in a few words for a person.
+impl fmt::Display for Cause {
+    ghost output = { λ cause. Some (words_of cause) };
+
+    fn fmt<W: fmt::Write>(&self, f: &mut fmt::Formatter<W>) -> fmt::Result {
+        f.write_str(match self {
             Cause::NoHeader => "no header names the block",
             Cause::NoFrame => "no frame on the track",
             Cause::NoData => "no data block after the header",
@@ -90,6 +94,6 @@ impl Cause {
             Cause::ShortBuffer => "the buffer is too small",
             Cause::BadSpan => "the bits do not fit the track",
             Cause::Other(_) => "refused by the device",
-        }
+        })
     }
 }

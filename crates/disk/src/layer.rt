@@ -11,11 +11,11 @@ pub enum Layer {
     Caller,
 }
 
-impl Layer {
-    pub fn number(self) -> u8
-        ensures { result ≡ layer_number self }
-    {
-        match self {
+impl From<Layer> for u8 {
+    ghost from_gives = { λ layer number. number ≡ layer_number layer };
+
+    fn from(layer: Layer) -> u8 {
+        match layer {
             Layer::Image => 1,
             Layer::Track => 2,
             Layer::Sector => 3,

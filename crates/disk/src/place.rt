@@ -35,6 +35,7 @@ pub fn zone(track: u8) -> Option<u8>
 }
 
 // Whether the disk has a block there.
+#[tactic(auto, unfolding(crate::specs::Geometry::legal))]
 pub fn exists(place: Place) -> bool
     ensures { result ≡ legal place }
 {
@@ -42,6 +43,7 @@ pub fn exists(place: Place) -> bool
 }
 
 // The number of a block in place order, from 0.
+#[tactic(auto, unfolding(crate::specs::Geometry::legal, crate::specs::Geometry::index_of, crate::specs::Geometry::order_of))]
 pub fn block_index(place: Place) -> Option<usize>
     ensures value { result ≡ order_of place }
     ensures there { MatchOption result (legal place ≡ false) (λ i. (legal place ≡ true) × (i ≡ index_of place) × (i < 683)) }
@@ -49,17 +51,18 @@ pub fn block_index(place: Place) -> Option<usize>
     if !exists(place) {
         return None;
     }
-    let track = place.0 as usize;
+    let (track, sector) = (usize::from(place.0), usize::from(place.1));
     let before = match track {
         0..=17 => (track - 1) * 21,
         18..=24 => 357 + (track - 18) * 19,
         25..=30 => 490 + (track - 25) * 18,
         _ => 598 + (track - 31) * 17,
     };
-    Some(before + place.1 as usize)
+    Some(before + sector)
 }
 
 // The block of a number in place order.
+#[tactic(auto, unfolding(crate::specs::Geometry::placed_at))]
 pub fn block_place(index: usize) -> Option<Place>
     ensures { result ≡ placed_at index }
 {

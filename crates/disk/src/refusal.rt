@@ -65,15 +65,12 @@ impl fmt::Display for Refusal {
     ghost output = { λ r. Some (refusal_shown r) };
 
     fn fmt<W: fmt::Write>(&self, f: &mut fmt::Formatter<W>) -> fmt::Result {
-        let number = self.cause.number();
-        let layer = self.layer.number();
-        let (track, sector) = self.place;
-        let (tens, ones) = (track / 10, track % 10);
-        let (sector_tens, sector_ones) = (sector / 10, sector % 10);
-        let words = self.cause.words();
-        write!(
-            f,
-            "FAULT {number} {layer} {tens}{ones}/{sector_tens}{sector_ones}: {words}"
-        )
+        let Refusal {
+            cause,
+            layer,
+            place: (track, sector),
+        } = *self;
+        let (number, layer) = (u8::from(cause), u8::from(layer));
+        write!(f, "FAULT {number} {layer} {track:02}/{sector:02}: {cause}")
     }
 }

@@ -24,8 +24,8 @@ pub trait SectorSource {
 pub fn fault_at(cause: Cause, place: Place) -> Refusal
     ensures { result ≡ fault_at cause place }
 {
-    let layer = match cause.number() {
-        21 => Layer::Track,
+    let layer = match cause {
+        Cause::NoFrame | Cause::Other(21) => Layer::Track,
         _ => Layer::Sector,
     };
     Refusal {

@@ -1,36 +1,30 @@
 // Block tables: slices that the caller lends, one entry of any copied kind for each block, in place order.
-ghost use Rattle.std.specs.Prelude.{◌≡◌, length};
-ghost use Rattle.disk.specs.declared.cause.Cause.TheVariants.{NoSuchBlock};
-ghost use Rattle.disk.specs.declared.layer.Layer.TheVariants.{Sector};
-ghost use Rattle.disk.specs.Refusals.{refusal};
+ghost use Rattle.std.specs.Prelude.{◌≡◌, ◌≤◌, length, OnOk};
 ghost use Rattle.tables.specs.Tables.{got, put_result, put_table, fill_result, filled};
 
 use disk::cause::*;
-use disk::layer::*;
 use disk::place::*;
 use disk::refusal::*;
+use sector::source::*;
 
-fn no_block(place: Place) -> Refusal
-    ensures { result ≡ refusal NoSuchBlock Sector place }
+// Whether a table of this length has an entry for every block.
+pub(crate) fn check_length(length: usize) -> Result<(), Refusal>
+    ensures answer { result ≡ fill_result length }
+    ensures room { OnOk result (BLOCKS ≤ length) }
 {
-    Refusal {
-        cause: Cause::NoSuchBlock,
-        layer: Layer::Sector,
-        place,
+    if length < BLOCKS {
+        return Err(Refusal::by_caller(Cause::ShortBuffer));
     }
+    Ok(())
 }
 
 // The entry of a block.
 pub fn get<T: Copy>(table: &[T], place: Place) -> Result<T, Refusal>
     ensures { got table.now place result }
 {
-    if table.len() < BLOCKS {
-        return Err(Refusal::by_caller(Cause::ShortBuffer));
-    }
-    match block_index(place) {
-        Some(index) => Ok(table[index]),
-        None => Err(no_block(place)),
-    }
+    check_length(table.len())?;
+    let index = block_index(place).ok_or(fault_at(Cause::NoSuchBlock, place))?;
+    Ok(table[index])
 }
 
 // Makes `value` the entry of a block.
@@ -38,12 +32,8 @@ pub fn put<T: Copy>(table: &mut [T], place: Place, value: T) -> Result<(), Refus
     ensures answer { result ≡ put_result (length table.old) place }
     ensures after { table.new ≡ put_table table.old place value }
 {
-    if table.len() < BLOCKS {
-        return Err(Refusal::by_caller(Cause::ShortBuffer));
-    }
-    let Some(index) = block_index(place) else {
-        return Err(no_block(place));
-    };
+    check_length(table.len())?;
+    let index = block_index(place).ok_or(fault_at(Cause::NoSuchBlock, place))?;
     table[index] = value;
     Ok(())
 }
@@ -53,11 +43,9 @@ pub fn fill<T: Copy>(table: &mut [T], value: T) -> Result<(), Refusal>
     ensures answer { result ≡ fill_result (length table.old) }
     ensures after { table.new ≡ filled table.old value }
 {
-    if table.len() < BLOCKS {
-        return Err(Refusal::by_caller(Cause::ShortBuffer));
-    }
-    for i in 0..BLOCKS {
-        table[i] = value;
+    check_length(table.len())?;
+    for entry in &mut table[..BLOCKS] {
+        *entry = value;
     }
     Ok(())
 }

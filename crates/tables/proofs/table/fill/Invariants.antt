@@ -1,5 +1,5 @@
-use Rattle.std.proofs.Common.{◌≡◌, ◌++◌, drop, replicate}
+use Rattle.std.proofs.Common.{◌≡◌, take, replicate}
 use Rattle.tables.proofs.table.fill.Given as goal
 
-abbrev pub invariant-loop-i : goal.invariant-loop-i
-invariant-loop-i g l = l.table ≡ replicate l.i l.value ++ drop l.i l.initial.table
+abbrev pub invariant-loop-entry : goal.invariant-loop-entry
+invariant-loop-entry g l = take l.entry-index l.entry-items ≡ replicate l.entry-index l.value
