@@ -1,13 +1,12 @@
 -- The number that a number's bits write is that number, and what ten of them stand for.
-use Rattle.std.proofs.Common.{◌≡◌, ℕ, zero, suc, ◌+◌, ◌*◌, ◌/◌, ◌%◌, ◌^◌, ◌<◌, Bool, cond, leb, List, [], ◌∷◌, ◌++◌, length, take, Some, None, fold, Option, sym, refl, ap, ◌∙◌, add_assoc, mod-eq_of_lt, mul_assoc, add-mul, arith}
+use Rattle.std.proofs.Common.{◌≡◌, ℕ, zero, suc, ◌+◌, ◌*◌, ◌/◌, ◌%◌, ◌^◌, ◌<◌, Bool, cond, leb, List, [], ◌∷◌, ◌++◌, length, get_or, take, Some, None, fold, Option, sym, refl, ap, ◌∙◌, add_assoc, mod-eq_of_lt, mul_assoc, add-mul, arith}
 use native.Mathlib.Nat.{pow-succ'}
 use Rattle.std.proofs.lemmas.Nat.{mod-pow-add}
 use Rattle.std.proofs.lemmas.Bool.{cond-true, le-leb}
 use Rattle.std.proofs.lemmas.List.{length-append}
 use Rattle.std.proofs.lemmas.Bool.Decides.{nat_tests}
-use Rattle.std.specs.List.{flat_map}
 use Rattle.gcr.specs.Bits.{bit, bits, and_bit, value}
-use Rattle.gcr.specs.Codes.{if_some, byte_of, coded, bytes_in}
+use Rattle.gcr.specs.Codes.{if_some, byte_of, coded, bytes_in, Tens}
 
 -- a bit as a number
 bit_is : (k n : ℕ) → cond (bit k n) 1 0 ≡ n / 2 ^ k % 2
@@ -45,13 +44,14 @@ four_some (Some a) (Some b) None z = refl
 four_some (Some a) (Some b) (Some c) None = refl
 four_some (Some a) (Some b) (Some c) (Some d) = refl
 
-pub four_coded : (f : List Bool) (a b c d : ℕ) → f ≡ flat_map (bits 10) (a ∷ b ∷ c ∷ d ∷ []) → a < 1024 → b < 1024 → c < 1024 → d < 1024 →
-    bytes_in 4 f ≡ if_some (byte_of a) (λ w. if_some (byte_of b) (λ x. if_some (byte_of c) (λ y. if_some (byte_of d) (λ z. Some (w ∷ x ∷ y ∷ z ∷ [])))))
+pub four_coded : (ns : List ℕ) (f : List Bool) → Tens ns f →
+    bytes_in 4 f ≡ if_some (byte_of (get_or ns 0 0)) (λ w. if_some (byte_of (get_or ns 1 0)) (λ x. if_some (byte_of (get_or ns 2 0)) (λ y. if_some (byte_of (get_or ns 3 0)) (λ z. Some (w ∷ x ∷ y ∷ z ∷ [])))))
 unfolding bytes_in
-four_coded f a b c d e ha hb hc hd =
-    let s3 = bytes_step 0 d [] hd in
-    let s2 = bytes_step 1 c (bits 10 d ++ []) hc ∙ ap (λ o. if_some (byte_of c) (λ y. if_some o (λ bs. Some (y ∷ bs)))) s3 in
-    let s1 = bytes_step 2 b (bits 10 c ++ (bits 10 d ++ [])) hb ∙ ap (λ o. if_some (byte_of b) (λ y. if_some o (λ bs. Some (y ∷ bs)))) s2 in
-    ap (bytes_in 4) e
-    ∙ bytes_step 3 a (bits 10 b ++ (bits 10 c ++ (bits 10 d ++ []))) ha ∙ ap (λ o. if_some (byte_of a) (λ y. if_some o (λ bs. Some (y ∷ bs)))) s1
+four_coded ns f t =
+    let a = get_or ns 0 0 in let b = get_or ns 1 0 in let c = get_or ns 2 0 in let d = get_or ns 3 0 in
+    let s3 = bytes_step 0 d [] t.4 in
+    let s2 = bytes_step 1 c (bits 10 d ++ []) t.3 ∙ ap (λ o. if_some (byte_of c) (λ y. if_some o (λ bs. Some (y ∷ bs)))) s3 in
+    let s1 = bytes_step 2 b (bits 10 c ++ (bits 10 d ++ [])) t.2 ∙ ap (λ o. if_some (byte_of b) (λ y. if_some o (λ bs. Some (y ∷ bs)))) s2 in
+    ap (bytes_in 4) t.0
+    ∙ bytes_step 3 a (bits 10 b ++ (bits 10 c ++ (bits 10 d ++ []))) t.1 ∙ ap (λ o. if_some (byte_of a) (λ y. if_some o (λ bs. Some (y ∷ bs)))) s1
     ∙ four_some (byte_of a) (byte_of b) (byte_of c) (byte_of d)

@@ -23,5 +23,5 @@ pub fn encode(byte: u8) -> u16
     ensures small { result < 1024 }
     ensures ten { bits 10 result ≡ ten byte }
 {
-    code(byte / 16) as u16 * 32 + code(byte % 16) as u16
+    u16::from(code(byte / 16)) * 32 + u16::from(code(byte % 16))
 }

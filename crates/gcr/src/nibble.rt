@@ -38,5 +38,5 @@ pub(crate) fn code(nibble: u8) -> u8
     ensures value { result ≡ code_of nibble }
     ensures small { result < 32 }
 {
-    CODES[nibble as usize]
+    CODES[usize::from(nibble)]
 }

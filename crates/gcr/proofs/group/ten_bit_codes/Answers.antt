@@ -1,5 +1,6 @@
-use Rattle.std.proofs.Common.{◌≡◌, ℕ, ◌+◌, ◌*◌, ◌/◌, ◌%◌, ◌<◌, List, [], ◌∷◌, length, get_or, sym, refl, ap, ◌∙◌, arith, rules}
+use Rattle.std.proofs.Common.{◌≡◌, ℕ, ◌+◌, ◌*◌, ◌/◌, ◌%◌, ◌<◌, List, [], ◌∷◌, length, get_or, bit_and, sym, refl, ap, ◌∙◌, arith, rules}
 use Rattle.std.specs.List.{flat_map}
+use Rattle.std.proofs.lemmas.Nat.{and_mask}
 use Rattle.gcr.specs.Bits.{bits, bits_of}
 use Rattle.gcr.specs.Codes.{Tens}
 use Rattle.gcr.proofs.Bits.{five_bytes, four_tens}
@@ -32,8 +33,8 @@ by_tens n =
 
 module _ (l : List ℕ) (long : length l ≡ 5) (ha : get_or l 0 0 < 256) (hb : get_or l 1 0 < 256) (hc : get_or l 2 0 < 256) (hd : get_or l 3 0 < 256) (he : get_or l 4 0 < 256)
     (n : ℕ) (is : n ≡ (get_or l 0 0 * 16777216 + get_or l 1 0 * 65536 + get_or l 2 0 * 256 + get_or l 3 0) * 256 + get_or l 4 0) where
-  tens_so : Tens (n / 1073741824 ∷ n / 1048576 % 1024 ∷ n / 1024 % 1024 ∷ n % 1024 ∷ []) (bits_of l)
-  tens_so = (
+  tens_so : Tens (n / 1073741824 ∷ bit_and (n / 1048576) 1023 ∷ bit_and (n / 1024) 1023 ∷ bit_and n 1023 ∷ []) (bits_of l)
+  tens_so = rw (and_mask (n / 1048576) 10, and_mask (n / 1024) 10, and_mask n 10) (
     ap bits_of (five_list l long) ∙ by_bytes n (get_or l 0 0) (get_or l 1 0) (get_or l 2 0) (get_or l 3 0) (get_or l 4 0) ha hb hc hd he is ∙ by_tens n,
     omega arith,
     omega arith,
@@ -42,4 +43,4 @@ module _ (l : List ℕ) (long : length l ≡ 5) (ha : get_or l 0 0 < 256) (hb : 
   )
 
 pub returns : goal.returns
-returns c = tens_so c.args.track (search rules) (search rules) (search rules) (search rules) (search rules) (search rules) _ refl
+returns c = tens_so c.args.track (search rules) (search rules) (search rules) (search rules) (search rules) (search rules) c.from_be_bytes-all.result (omega (arith, c.from_be_bytes-all.ensures))
