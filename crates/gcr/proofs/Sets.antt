@@ -1,10 +1,10 @@
 -- One bit of a byte or of bytes set, in the byte and in its bits.
-use Rattle.std.proofs.Common.{◌≡◌, ◌≢◌, ℕ, zero, suc, ◌+◌, ◌-◌, ◌*◌, ◌/◌, ◌%◌, ◌<◌, Bool, List, [], ◌∷◌, ◌++◌, length, get_or, set, inl, inr, sym, refl, ap, ◌∙◌, div-add-mod', arith, length-set}
+use Rattle.std.proofs.Common.{◌≡◌, ◌≢◌, ℕ, zero, suc, ◌+◌, ◌-◌, ◌*◌, ◌/◌, ◌%◌, ◌<◌, ◌≤◌, Bool, List, [], ◌∷◌, ◌++◌, length, get_or, set, inl, inr, sym, refl, ap, ◌∙◌, div-add-mod', arith, length-set}
 use Rattle.std.proofs.lemmas.Bool.{cases_eq}
-use Rattle.std.proofs.lemmas.List.{set-append_left, set-append_right, same_lists, get_or-set_other}
+use Rattle.std.proofs.lemmas.List.{set-append_left, set-append_right, same_lists, get_or-set_other, set_past}
 use Rattle.std.proofs.lemmas.Grind.{get_or-set_at}
 use Rattle.gcr.specs.Bits.{bit, bits, bits_of}
-use Rattle.gcr.proofs.Bits.{get_d_bits}
+use Rattle.gcr.proofs.Bits.{get_d_bits, length_bits_of}
 
 -- the bits of a byte that differs from another in one of them at most
 pub bits_set : (v w at : ℕ) (b : Bool) → at < 8 → bit (7 - at) w ≡ b → ((i : ℕ) → i < 8 → i ≢ 7 - at → bit i w ≡ bit i v) → bits 8 w ≡ set (bits 8 v) at b
@@ -31,3 +31,7 @@ pub bits_of_set_at : (bs : List ℕ) (p w : ℕ) (b : Bool) → p < length bs * 
 bits_of_set_at bs p w b h e =
     bits_of_set bs (p / 8) (p % 8) w b (omega arith) (omega arith) e
     ∙ ap (λ (i : ℕ). set (bits_of bs) i b) (div-add-mod' p 8)
+
+-- past the end of the bytes nothing is set
+pub bits_of_set_past : (bs : List ℕ) (p : ℕ) (b : Bool) → length bs ≤ p / 8 → set (bits_of bs) p b ≡ bits_of bs
+bits_of_set_past bs p b h = set_past (bits_of bs) p b (let l = length_bits_of bs in omega arith)

@@ -21,6 +21,7 @@ fn with_bit(byte: u8, at: u8, bit: bool) -> u8
 }
 
 // Sets bit `at` of the bytes; past their end nothing changes.
+#[tactic(auto, using(crate::proofs::Sets::bits_of_set_at, crate::proofs::Sets::bits_of_set_past))]
 pub fn set_bit(bytes: &mut [u8], at: usize, bit: bool)
     ensures { bits_of bytes.new ≡ slice_set (bits_of bytes.old) at bit }
 {
