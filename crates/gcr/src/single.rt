@@ -12,7 +12,7 @@ pub fn bit_at(bytes: &[u8], at: usize) -> bool
 }
 
 // A byte with one bit set.
-fn with_bit(byte: u8, at: u8, bit: bool) -> u8
+fn with_bit(byte: u8, at: usize, bit: bool) -> u8
     requires { at < 8 }
     ensures { bits 8 result ≡ slice_set (bits 8 byte) at bit }
 {
@@ -27,6 +27,6 @@ pub fn set_bit(bytes: &mut [u8], at: usize, bit: bool)
 {
     // By index: once a loan of `get_mut` ends, a proof knows no element of the bytes (tried; `returns-in-Some` stays open).
     if at / 8 < bytes.len() {
-        bytes[at / 8] = with_bit(bytes[at / 8], (at % 8) as u8, bit);
+        bytes[at / 8] = with_bit(bytes[at / 8], at % 8, bit);
     }
 }
