@@ -20,7 +20,8 @@ pub trait SectorSource {
     ghost whole: { (s : Self) (p : ℕ × ℕ) → Whole (contents s p) };
 }
 
-// The refusal of a block that a source does not give: a track without frames is the track's fault, any other the sector's.
+// The refusal of a block that a source does not give: a track without frames, which is the number 21 from any device, is the
+// track's fault, any other the sector's.
 pub fn fault_at(cause: Cause, place: Place) -> Refusal
     ensures { result ≡ fault_at cause place }
 {
