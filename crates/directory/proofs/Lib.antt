@@ -1,4 +1,3 @@
-pub mod Parts
 pub mod Names
 pub mod Slots
 pub mod Entries

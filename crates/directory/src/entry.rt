@@ -14,6 +14,7 @@ pub struct Entry {
 }
 
 // The entry of a slot; slots of other blocks have the same places in theirs.
+#[tactic(auto, unfolding(crate::specs::Entries::entry_of))]
 pub fn entry_at(block: &[u8; 256], slot: usize) -> Entry
     ensures { result ≡ entry_of block.now slot }
 {
@@ -21,32 +22,25 @@ pub fn entry_at(block: &[u8; 256], slot: usize) -> Entry
     let mut name = [0; 16];
     name.copy_from_slice(&block[at + 5..at + 21]);
     Entry {
-        status: status_of(block[at + 2]),
+        status: Status::from(block[at + 2]),
         first: (block[at + 3], block[at + 4]),
         name,
-        blocks: block[at + 30] as u16 + 256 * block[at + 31] as u16,
+        blocks: u16::from_le_bytes([block[at + 30], block[at + 31]]),
     }
 }
 
 // Whether the slot is filled and has the name.
+#[tactic(auto, using(crate::proofs::Entries::named_by), unfolding(crate::specs::Entries::is_of))]
 pub fn is_named(block: &[u8; 256], slot: usize, name: &[u8; 16]) -> bool
     ensures { result ≡ is_of block.now name.now slot }
 {
     let entry = entry_at(block, slot);
-    match entry.status {
-        Status::Empty => false,
-        _ => entry.name.as_slice() == name.as_slice(),
-    }
+    entry.status != Status::Empty && entry.name == *name
 }
 
 // The first filled slot of the name among the eight of a block.
 pub fn named_slot(block: &[u8; 256], name: &[u8; 16]) -> Option<usize>
     ensures { result ≡ slot_of block.now name.now }
 {
-    for slot in 0..8 {
-        if is_named(block, slot, name) {
-            return Some(slot);
-        }
-    }
-    None
+    (0..8).find(|slot| is_named(block, *slot, name))
 }

@@ -17,7 +17,7 @@ pub enum Status {
     Foreign(u8),
 }
 
-// The kind of a file by the low bits of its type byte.
+// The kind of a file by the low bits of its type byte. A function and no `From<u8>`, since other bytes stand for no kind, and no `TryFrom<u8>`, whose refusal the calls below could never see.
 fn file_kind(code: u8) -> FileKind
     ensures { result ≡ kind_of code }
 {
@@ -28,13 +28,16 @@ fn file_kind(code: u8) -> FileKind
     }
 }
 
-pub fn status_of(type_byte: u8) -> Status
-    ensures { result ≡ status_of type_byte }
-{
-    match type_byte {
-        0 => Status::Empty,
-        1..=3 => Status::Unclosed(file_kind(type_byte)),
-        closed if 0x81 <= closed && closed <= 0x83 => Status::Closed(file_kind(closed - 0x80)),
-        foreign => Status::Foreign(foreign),
+// What a type byte says.
+impl From<u8> for Status {
+    ghost from_gives = { λ type_byte status. status ≡ status_of type_byte };
+
+    fn from(type_byte: u8) -> Status {
+        match type_byte {
+            0 => Status::Empty,
+            1..=3 => Status::Unclosed(file_kind(type_byte)),
+            closed if 0x81 <= closed && closed <= 0x83 => Status::Closed(file_kind(closed - 0x80)),
+            foreign => Status::Foreign(foreign),
+        }
     }
 }

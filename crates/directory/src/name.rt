@@ -9,22 +9,14 @@ use disk::refusal::*;
 pub fn is_barred(byte: u8) -> bool
     ensures { result ≡ barred byte }
 {
-    match byte {
-        b'\r' | b'"' | b'*' | b',' | b':' | b'=' | b'?' | 0xa0 => true,
-        _ => false,
-    }
+    matches!(byte, b'\r' | b'"' | b'*' | b',' | b':' | b'=' | b'?' | 0xa0)
 }
 
 // Whether a name may hold all these bytes.
 pub fn is_clean(bytes: &[u8]) -> bool
     ensures { result ≡ clean bytes.now }
 {
-    for byte in bytes {
-        if is_barred(*byte) {
-            return false;
-        }
-    }
-    true
+    bytes.iter().all(|byte| !is_barred(*byte))
 }
 
 // The first sixteen bytes of a name, filled up with 0xa0.
@@ -33,7 +25,7 @@ fn padded(name: &[u8]) -> [u8; 16]
     ensures { result ≡ title name.now }
 {
     let mut title = [0xa0; 16];
-    title[0..name.len()].copy_from_slice(name);
+    title[..name.len()].copy_from_slice(name);
     title
 }
 
