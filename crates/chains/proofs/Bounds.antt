@@ -1,5 +1,5 @@
 -- The bound on the number of blocks cuts no route short.
-use Rattle.std.proofs.Common.{◌≡◌, ℕ, zero, suc, ◌+◌, ◌≤◌, Bool, true, false, List, [], ◌∷◌, ◌++◌, length, Ok, Err, Result, refl, ap, ◌∙◌, arith}
+use Rattle.std.proofs.Common.{◌≡◌, ℕ, zero, suc, ◌+◌, ◌≤◌, Bool, true, false, List, [], ◌∷◌, ◌++◌, length, Some, None, Option, Ok, Err, Result, refl, ap, ◌∙◌, arith}
 use Rattle.std.proofs.lemmas.List.{length_push}
 use Rattle.disk.specs.declared.cause.Cause.TheVariants.{BadStructure}
 use Rattle.disk.specs.declared.refusal.Refusal.{Refusal}
@@ -8,14 +8,11 @@ use Rattle.disk.specs.Refusals.{by_volume}
 use Rattle.sector.specs.Source.{Disk, and_then}
 use Rattle.chains.specs.declared.route.Route.{Route}
 use Rattle.chains.specs.declared.route.Route.TheVariants.{File, Directory, Search}
-use Rattle.chains.specs.declared.route.Link.{Link}
-use Rattle.chains.specs.declared.route.Link.TheVariants.{Stop, Next}
 use Rattle.chains.specs.Sets.{among}
 use Rattle.chains.specs.Chains.{on_route, visited, link_of, led, chain_from, most}
 use Rattle.chains.specs.Laws.{BoundEnough}
 use Rattle.chains.proofs.Chains.{visited_on_route}
 use Rattle.chains.proofs.Counts.{room, Counted, counted_none, counted_more, few}
-use Rattle.chains.proofs.Chains.{no_answer}
 
 pub visited_unmet : (d : Disk) (r : Route) (met : Bool) (from p : Place) (b : List ℕ) → visited d r met from p ≡ Ok b → met ≡ false
 unfolding visited
@@ -23,7 +20,7 @@ visited_unmet d r met from p b e = go met refl
   where
     go : (y : Bool) → met ≡ y → met ≡ false
     go false g = g
-    go true g = absurd (no_answer (rw (visited_on_route d r met from p b e, g) at e))
+    go true g = cc (rw (visited_on_route d r met from p b e, g) at e)
 
 -- where every block of the route was met, the next link is refused as the bound refuses it
 full : (d : Disk) (r : Route) (met : List Place) (from p : Place) → Counted r met → most r ≤ length met → visited d r (among met p) from p ≡ Err (by_volume BadStructure from)
@@ -61,10 +58,10 @@ enough d r (suc m) n met from p c h =
         counted : Counted r (met ++ p ∷ [])
         counted = counted_more r met p (visited_on_route d r (among met p) from p b v) (visited_unmet d r (among met p) from p b v) c
 
-        linked : (l : Result Link Refusal) → and_then l (λ x. led x (met ++ p ∷ [], b) (λ q. chain_from d r (m + n) (met ++ p ∷ []) p q)) ≡ and_then l (λ x. led x (met ++ p ∷ [], b) (λ q. chain_from d r m (met ++ p ∷ []) p q))
+        linked : (l : Result (Option Place) Refusal) → and_then l (λ x. led x (met ++ p ∷ [], b) (λ q. chain_from d r (m + n) (met ++ p ∷ []) p q)) ≡ and_then l (λ x. led x (met ++ p ∷ [], b) (λ q. chain_from d r m (met ++ p ∷ []) p q))
         linked (Err x) = refl
-        linked (Ok Stop) = refl
-        linked (Ok (Next q)) = ih q counted
+        linked (Ok None) = refl
+        linked (Ok (Some q)) = ih q counted
 
 pub bound_enough : BoundEnough most
 bound_enough d r from p n = enough d r (most r) n [] from p (counted_none r) (omega arith)

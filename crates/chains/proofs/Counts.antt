@@ -1,5 +1,6 @@
 -- How many blocks a route can have.
 use Rattle.std.proofs.Common.{◌≡◌, ℕ, zero, suc, ◌+◌, ◌-◌, ◌<◌, ◌≤◌, Bool, true, false, cond, ◌||◌, ltb, List, [], ◌∷◌, ◌++◌, length, sym, refl, ap, ◌∙◌, inl, inr, add-one, arith}
+use Rattle.std.proofs.Math.Bool.{or-false}
 use Rattle.std.proofs.lemmas.Bool.Decides.{nat_tests, eqb_tells}
 use Rattle.std.proofs.lemmas.Bool.{cases_Bool}
 use Rattle.std.proofs.lemmas.List.{length_push}
@@ -8,7 +9,7 @@ use Rattle.chains.specs.declared.route.Route.{Route}
 use Rattle.chains.specs.declared.route.Route.TheVariants.{File, Directory, Search}
 use Rattle.chains.specs.Sets.{among}
 use Rattle.chains.specs.Chains.{on_route}
-use Rattle.chains.proofs.Sets.{or_false, same_refl, same_true, among_push}
+use Rattle.chains.proofs.Sets.{same_refl, same_true, among_push}
 
 -- how many of the numbers below n pass
 abbrev one : Bool → ℕ
@@ -112,7 +113,7 @@ counted_more r ps p h f c =
     let before : among ps (nth r (number r p)) ≡ false = ap (among ps) e ∙ f in
     let after : among (ps ++ p ∷ []) (nth r (number r p)) ≡ true = ap (among (ps ++ p ∷ [])) e ∙ among_push ps p p ∙ rw (f, same_refl p) in
     count_more (λ i. among ps (nth r i)) (λ i. among (ps ++ p ∷ []) (nth r i)) (room r) (number r p) w before after
-    (λ i l d. sym (among_push ps p (nth r i) ∙ ap (λ b. among ps (nth r i) || b) (apart i l d) ∙ or_false (among ps (nth r i))))
+    (λ i l d. sym (among_push ps p (nth r i) ∙ ap (λ b. among ps (nth r i) || b) (apart i l d) ∙ or-false (among ps (nth r i))))
     ∙ ap suc c ∙ sym (length_push ps p ∙ add-one (length ps))
   where
     apart : (i : ℕ) → i < room r → (i ≡ number r p → ⊥) → same_place p (nth r i) ≡ false

@@ -1,24 +1,11 @@
 -- A table of flags as a set of blocks, and the lists that it marks.
 use Rattle.std.proofs.Common.{◌≡◌, Bool, true, false, ◌&&◌, ◌||◌, eqb, ◌≢◌, List, [], ◌∷◌, ◌++◌, length, get_or, set, replicate, sym, refl, ap, ◌∙◌, subst, inl, inr, arith}
+use Rattle.std.proofs.Math.Bool.{or_comm, or_assoc, or-false}
 use Rattle.std.proofs.lemmas.List.{get_or-set_same, get_or-set_other, get_or-replicate}
 use Rattle.std.proofs.lemmas.Bool.{cases_Bool, eqb-true, eq-eqb, and_parts, and_from, both_ways}
 use Rattle.disk.specs.Geometry.{Place, legal, index_of, same_place}
 use Rattle.disk.proofs.Places.{index_within, place_same}
 use Rattle.chains.specs.Sets.{among, holds, with_place}
-
-pub or_assoc : (a b c : Bool) → (a || (b || c)) ≡ ((a || b) || c)
-or_assoc true b c = refl
-or_assoc false b c = refl
-
-pub or_false : (a : Bool) → (a || false) ≡ a
-or_false true = refl
-or_false false = refl
-
-or_comm : (a b : Bool) → (a || b) ≡ (b || a)
-or_comm true true = refl
-or_comm true false = refl
-or_comm false true = refl
-or_comm false false = refl
 
 pub same_refl : (p : Place) → same_place p p ≡ true
 same_refl p = and_from _ _ (eq-eqb p.0 p.0 refl) (eq-eqb p.1 p.1 refl)
@@ -63,8 +50,8 @@ holds_more flags q p n lq = elim (cases_Bool (same_place q p)) [
 
 pub among_push : (ps : List Place) (q p : Place) → among (ps ++ q ∷ []) p ≡ (among ps p || same_place q p)
 unfolding among
-among_push [] q p = or_false (same_place q p)
-among_push (x ∷ ps) q p = ap (λ b. same_place x p || b) (among_push ps q p) ∙ or_assoc (same_place x p) (among ps p) (same_place q p)
+among_push [] q p = or-false (same_place q p)
+among_push (x ∷ ps) q p = ap (λ b. same_place x p || b) (among_push ps q p) ∙ sym (or_assoc (same_place x p) (among ps p) (same_place q p))
 
 -- the flags at the blocks of the list, and at no other, are up
 abbrev pub Marks : List Bool → List Place → Type 0

@@ -1,5 +1,5 @@
 -- Following blocks from link to link.
-use Rattle.std.specs.Prelude.{ℕ, zero, suc, Bool, false, cond, not, ◌&&◌, List, [], ◌∷◌, ◌++◌, is_some, Ok, Err, Result, ◌==◌, slice_index}
+use Rattle.std.specs.Prelude.{ℕ, zero, suc, Bool, false, cond, not, ◌&&◌, List, [], ◌∷◌, ◌++◌, is_some, Some, None, Ok, Err, Option, Result, ◌==◌, slice_index}
 use Rattle.disk.specs.declared.cause.Cause.{Cause}
 use Rattle.disk.specs.declared.cause.Cause.TheVariants.{NoSuchBlock, BadStructure}
 use Rattle.disk.specs.declared.refusal.Refusal.{Refusal}
@@ -8,8 +8,6 @@ use Rattle.disk.specs.Refusals.{by_volume}
 use Rattle.sector.specs.Source.{Disk, loaded, and_then}
 use Rattle.chains.specs.declared.route.Route.{Route}
 use Rattle.chains.specs.declared.route.Route.TheVariants.{File, Directory, Search}
-use Rattle.chains.specs.declared.route.Link.{Link}
-use Rattle.chains.specs.declared.route.Link.TheVariants.{Stop, Next}
 use Rattle.directory.specs.Entries.{slot_of}
 use Rattle.chains.specs.Sets.{among}
 
@@ -35,14 +33,14 @@ halts Directory b = false
 halts (Search n) b = is_some (slot_of b n)
 
 -- a last block at p: that of a file names its last used byte, never byte 0
-abbrev pub ending : Route → Place → ℕ → Result Link Refusal
-ending File p n = cond (n == 0) (Err (by_volume BadStructure p)) (Ok Stop)
-ending Directory p n = Ok Stop
-ending (Search s) p n = Ok Stop
+abbrev pub ending : Route → Place → ℕ → Result (Option Place) Refusal
+ending File p n = cond (n == 0) (Err (by_volume BadStructure p)) (Ok None)
+ending Directory p n = Ok None
+ending (Search s) p n = Ok None
 
 -- where the block b, at p, leads: its first two bytes are track and sector, track 0 ends
-unfoldable pub link_of : Route → Place → List ℕ → Result Link Refusal
-link_of r p b = cond (halts r b) (Ok Stop) (cond (slice_index b 0 == 0) (ending r p (slice_index b 1)) (Ok (Next (slice_index b 0, slice_index b 1))))
+unfoldable pub link_of : Route → Place → List ℕ → Result (Option Place) Refusal
+link_of r p b = cond (halts r b) (Ok None) (cond (slice_index b 0 == 0) (ending r p (slice_index b 1)) (Ok (Some (slice_index b 0, slice_index b 1))))
 
 -- the bytes of the block at p, to which the block at `from` leads
 unfoldable pub visited : Disk → Route → Bool → Place → Place → Result (List ℕ) Refusal
@@ -52,9 +50,9 @@ visited d r met from p = cond (on_route r p) (cond met (Err (by_volume BadStruct
 abbrev pub Followed : Type 0
 Followed = List Place × List ℕ
 
-abbrev pub led : Link → Followed → (Place → Result Followed Refusal) → Result Followed Refusal
-led Stop f k = Ok f
-led (Next q) f k = k q
+abbrev pub led : Option Place → Followed → (Place → Result Followed Refusal) → Result Followed Refusal
+led None f k = Ok f
+led (Some q) f k = k q
 
 -- the blocks from p on, after those met; at most n more
 unfoldable pub chain_from : Disk → Route → ℕ → List Place → Place → Place → Result Followed Refusal

@@ -2,6 +2,7 @@
 #![tactic(auto)]
 
 pub mod chain;
+pub mod follow;
 pub mod laws;
 pub mod route;
 pub mod set;

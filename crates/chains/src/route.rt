@@ -7,6 +7,7 @@ use disk::cause::*;
 use disk::place::*;
 use disk::refusal::*;
 
+// An enum that each method matches on, since the definitions and the law on the bound speak of every route as one value; with a trait or a closure for `halts`, `follow` and they would have to carry its test beside the route.
 #[derive(Clone, Copy, Debug)]
 pub enum Route {
     // a file's blocks, to the last one
@@ -15,12 +16,6 @@ pub enum Route {
     Directory,
     // the directory's blocks, to the first that has a filled slot of the name
     Search([u8; 16]),
-}
-
-#[derive(Clone, Copy, Debug)]
-pub enum Link {
-    Stop,
-    Next(Place),
 }
 
 impl Route {
@@ -66,19 +61,20 @@ impl Route {
         }
     }
 
-    // Where the block at `here` leads. The last block of a file names its last used byte, never byte 0.
-    pub fn link(&self, here: Place, block: &[u8; 256]) -> Result<Link, Refusal>
+    // Where the block at `here` leads, if on. The last block of a file names its last used byte, never byte 0.
+    #[tactic(auto, unfolding(crate::specs::Chains::link_of))]
+    pub fn link(&self, here: Place, block: &[u8; 256]) -> Result<Option<Place>, Refusal>
         ensures { result ≡ link_of self.now here block.now }
     {
         if self.halts(block) {
-            return Ok(Link::Stop);
+            return Ok(None);
         }
         if block[0] != 0 {
-            return Ok(Link::Next((block[0], block[1])));
+            return Ok(Some((block[0], block[1])));
         }
         match self {
             Route::File if block[1] == 0 => Err(Refusal::by_volume(Cause::BadStructure, here)),
-            _ => Ok(Link::Stop),
+            _ => Ok(None),
         }
     }
 }

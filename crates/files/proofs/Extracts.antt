@@ -1,5 +1,6 @@
 -- What is known of a file that was found, and of its bytes.
-use Rattle.std.proofs.Common.{◌≡◌, ℕ, ◌+◌, ◌-◌, ◌*◌, ◌<◌, ◌≤◌, List, [], ◌++◌, length, get_or, take, drop, Ok, Err, Result, sym, refl, ap, ◌∙◌, arith}
+use Rattle.std.proofs.Common.{◌≡◌, ℕ, ◌*◌, ◌<◌, ◌≤◌, List, [], ◌++◌, length, take, drop, Ok, Err, Result, sym, refl, ap, ◌∙◌, arith}
+use Rattle.std.specs.List.{AllByRecursion}
 use Rattle.std.proofs.lemmas.List.{length-take-le}
 use Rattle.std.proofs.lemmas.Bool.{lt-ltb, le-ltb}
 use Rattle.disk.specs.declared.cause.Cause.TheVariants.{ShortBuffer}
@@ -12,15 +13,14 @@ use Rattle.files.specs.declared.extract.Extent.{Extent}
 use Rattle.chains.specs.declared.route.Route.TheVariants.{File}
 use Rattle.chains.specs.Chains.{Followed}
 use Rattle.files.specs.Found.{last_of, located, closed_at, file_chain}
-use Rattle.files.specs.Files.{all_data, size_of, bytes_of, measured, extract_answer, extract_buffer, Fills}
-use Rattle.chains.proofs.Chains.{no_answer}
+use Rattle.files.specs.Files.{Readable, all_data, size_of, bytes_of, measured, extract_answer, extract_buffer, Fills}
 use Rattle.files.proofs.Followed.{loaded_whole, Walked, chain_walked}
 use Rattle.files.proofs.Files.{all_length}
 
 -- an accepted step came before what was accepted
 pub came_from : {X Y : Type 0} (r : Result X Refusal) (k : X → Result Y Refusal) (y : Y) → and_then r k ≡ Ok y → (x : X) × (r ≡ Ok x) × (k x ≡ Ok y)
 came_from (Ok x) k y e = (x, refl, e)
-came_from (Err z) k y e = absurd (no_answer e)
+came_from (Err z) k y e = cc
 
 module _ (d : Disk) (whole : (p : Place) → Whole (d p)) where
   pub file_walked : (name : List ℕ) (f : Followed) → file_chain d name ≡ Ok f → Walked d whole f
@@ -42,59 +42,45 @@ module _ (d : Disk) (whole : (p : Place) → Whole (d p)) where
       let h = size_high f w in
       length-take-le (size_of f) (all_data d f.0) (omega arith)
 
-  -- a chain in memory that is the file of the name
-  module _ (name : List ℕ) (c : Chain) (is : Ok (take c.count c.places, c.block) ≡ file_chain d name) (some : 0 < c.count) (few : c.count ≤ 683) (long : length c.places ≡ 683) where
-    blocks : Followed
-    blocks = (take c.count c.places, c.block)
+-- a chain in memory that is the file of the name, and how many bytes the file has
+pub record Held (d : Disk) (name : List ℕ) (c : Chain) (n : ℕ) : Type 0 where
+  pub is : Ok (c.places.items, c.block) ≡ file_chain d name
+  pub readable : AllByRecursion (Readable d) c.places.items
+  pub size : n ≡ size_of (c.places.items, c.block)
+  pub high : n ≤ 254 * length c.places.items
+  pub many : n ≡ length (bytes_of d (c.places.items, c.block))
 
-    walked : Walked d whole (take c.count c.places, c.block)
-    walked = file_walked name (take c.count c.places, c.block) (sym is)
+pub held : (d : Disk) (whole : (p : Place) → Whole (d p)) (name : List ℕ) (c : Chain) (n : ℕ) → Ok (c.places.items, c.block) ≡ file_chain d name → n ≡ size_of (c.places.items, c.block) → Held d name c n
+held d whole name c n is e =
+    let w = file_walked d whole name (c.places.items, c.block) (sym is) in
+    let h = size_high d whole (c.places.items, c.block) w in
+    record { is = is; readable = w.readable; size = e; high = omega arith; many = e ∙ sym (bytes_length d whole (c.places.items, c.block) w) }
 
-    count_is : length (take c.count c.places) ≡ c.count
-    count_is = length-take-le c.count c.places (omega arith)
+module _ {d : Disk} {name : List ℕ} {c : Chain} {n : ℕ} (h : Held d name c n) where
+  pub extent_is : (x : Extent) → x.bytes ≡ n → x.blocks ≡ length c.places.items → Ok x ≡ measured d name
+  extent_is x b k =
+      let m : measured d name ≡ Ok (record { bytes = length (bytes_of d (c.places.items, c.block)); blocks = length c.places.items }) = rw (sym h.is) in
+      sym (m ∙ (λ i. Ok (record { bytes = sym (b ∙ h.many) i; blocks = sym k i })))
 
-    pub total_is : (n : ℕ) → n ≡ 254 * (c.count - 1) + (get_or c.block 1 0 - 1) → n ≡ length (bytes_of d (take c.count c.places, c.block))
-    total_is n e =
-        let k = count_is in
-        let b = bytes_length (take c.count c.places, c.block) walked in
-        omega arith
+  pub fills : (room : ℕ) → n ≤ room → Fills d c n room
+  fills room f = let s = h.size in record { readable = h.readable; low = omega arith; high = h.high; fits = f }
 
-    pub extent_is : (x : Extent) → x.bytes ≡ 254 * (c.count - 1) + (get_or c.block 1 0 - 1) → x.blocks ≡ c.count → Ok x ≡ measured d name
-    extent_is x e n =
-        let a = total_is x.bytes e in
-        let b : x.blocks ≡ length (take c.count c.places) = n ∙ sym count_is in
-        let m : measured d name ≡ Ok (record { bytes = length (bytes_of d (take c.count c.places, c.block)); blocks = length (take c.count c.places) }) = rw (sym is) in
-        sym (m ∙ (λ i. Ok (record { bytes = sym a i; blocks = sym b i })))
+  pub too_long : (room : ℕ) → room < n → Err (by_caller ShortBuffer) ≡ extract_answer d name room
+  too_long room l =
+      let t = lt-ltb room (length (bytes_of d (c.places.items, c.block))) (omega (arith, h.many)) in
+      sym (rw (sym h.is, t))
 
-    module _ (n : ℕ) (e : n ≡ 254 * (c.count - 1) + (get_or c.block 1 0 - 1)) where
-      pub fills : (room : ℕ) → n ≤ room → Fills d c n room
-      fills room h =
-          let k = count_is in
-          let w = size_high (take c.count c.places, c.block) walked in
-          record { count = few; readable = walked.readable; low = omega arith; high = omega arith; fits = h }
+  pub too_long_buffer : (old : List ℕ) → length old < n → old ≡ extract_buffer d name old
+  too_long_buffer old l =
+      let t = lt-ltb (length old) (length (bytes_of d (c.places.items, c.block))) (omega (arith, h.many)) in
+      sym (rw (sym h.is, t))
 
-      pub too_long : (room : ℕ) → room < n → Err (by_caller ShortBuffer) ≡ extract_answer d name room
-      too_long room h =
-          let a = total_is n e in
-          let t = lt-ltb room (length (bytes_of d (take c.count c.places, c.block))) (omega arith) in
-          sym (rw (sym is, t))
+  pub answered_so : (room : ℕ) → n ≤ room → Ok n ≡ extract_answer d name room
+  answered_so room l =
+      let t = le-ltb room (length (bytes_of d (c.places.items, c.block))) (omega (arith, h.many)) in
+      ap (λ (k : ℕ). Ok k) h.many ∙ sym (rw (sym h.is, t))
 
-      pub too_long_buffer : (old : List ℕ) → length old < n → old ≡ extract_buffer d name old
-      too_long_buffer old h =
-          let a = total_is n e in
-          let t = lt-ltb (length old) (length (bytes_of d (take c.count c.places, c.block))) (omega arith) in
-          sym (rw (sym is, t))
-
-      pub answered_so : (room : ℕ) → n ≤ room → Ok n ≡ extract_answer d name room
-      answered_so room h =
-          let a = total_is n e in
-          let t = le-ltb room (length (bytes_of d (take c.count c.places, c.block))) (omega arith) in
-          ap (λ (k : ℕ). Ok k) a ∙ sym (rw (sym is, t))
-
-      pub filled_so : (old new : List ℕ) → n ≤ length old → new ≡ take n (all_data d (take c.count c.places)) ++ drop n old → new ≡ extract_buffer d name old
-      filled_so old new h s =
-          let a = total_is n e in
-          let k = count_is in
-          let z : n ≡ size_of (take c.count c.places, c.block) = omega arith in
-          let t = le-ltb (length old) (length (bytes_of d (take c.count c.places, c.block))) (omega arith) in
-          s ∙ (λ i. take (z i) (all_data d (take c.count c.places)) ++ drop (a i) old) ∙ sym (rw (sym is, t))
+  pub filled_so : (old new : List ℕ) → n ≤ length old → new ≡ take n (all_data d c.places.items) ++ drop n old → new ≡ extract_buffer d name old
+  filled_so old new l s =
+      let t = le-ltb (length old) (length (bytes_of d (c.places.items, c.block))) (omega (arith, h.many)) in
+      s ∙ (λ i. take (h.size i) (all_data d c.places.items) ++ drop (h.many i) old) ∙ sym (rw (sym h.is, t))

@@ -1,5 +1,5 @@
 -- Extracting looks at nothing but its path.
-use Rattle.std.proofs.Common.{◌≡◌, ℕ, zero, suc, Bool, true, false, ◌||◌, List, [], ◌∷◌, ◌++◌, take, drop, Ok, Err, Result, sym, refl, ap, ◌∙◌, subst, inl, inr}
+use Rattle.std.proofs.Common.{◌≡◌, ℕ, zero, suc, Bool, true, false, ◌||◌, List, [], ◌∷◌, ◌++◌, take, drop, Some, None, Option, Ok, Err, Result, sym, refl, ap, ◌∙◌, subst, inl, inr}
 use Rattle.std.proofs.lemmas.List.{append_assoc}
 use Rattle.std.proofs.lemmas.Bool.{or_left, or_right}
 use Rattle.disk.specs.declared.refusal.Refusal.{Refusal}
@@ -8,8 +8,6 @@ use Rattle.sector.specs.Source.{Disk, loaded, and_then}
 use Rattle.files.specs.declared.find.Located.{Located}
 use Rattle.chains.specs.declared.route.Route.{Route}
 use Rattle.chains.specs.declared.route.Route.TheVariants.{File, Search}
-use Rattle.chains.specs.declared.route.Link.{Link}
-use Rattle.chains.specs.declared.route.Link.TheVariants.{Stop, Next}
 use Rattle.directory.specs.Names.{named}
 use Rattle.chains.specs.Sets.{among}
 use Rattle.chains.specs.Chains.{on_route, visited, link_of, Followed, led, chain_from, chain_of}
@@ -18,8 +16,8 @@ use Rattle.directory.specs.Entries.{slot_of}
 use Rattle.files.specs.Files.{held, block_data, all_data, size_of, bytes_of, extracted}
 use Rattle.files.specs.Paths.{after, onward, looked, path_of, Agree}
 use Rattle.files.specs.Laws.{PathOnly}
-use Rattle.chains.proofs.Sets.{or_assoc, same_refl}
-use Rattle.chains.proofs.Chains.{no_answer}
+use Rattle.std.proofs.Math.Bool.{or_assoc}
+use Rattle.chains.proofs.Sets.{same_refl}
 use Rattle.files.proofs.Followed.{chain_step, visited_loaded}
 use Rattle.chains.proofs.Chains.{visited_on_route}
 use Rattle.chains.proofs.Bounds.{visited_unmet}
@@ -27,7 +25,7 @@ use Rattle.chains.proofs.Bounds.{visited_unmet}
 pub among_append : (ps qs : List Place) (p : Place) → among (ps ++ qs) p ≡ (among ps p || among qs p)
 unfolding among
 among_append [] qs p = refl
-among_append (x ∷ ps) qs p = ap (λ b. same_place x p || b) (among_append ps qs p) ∙ or_assoc (same_place x p) (among ps p) (among qs p)
+among_append (x ∷ ps) qs p = ap (λ b. same_place x p || b) (among_append ps qs p) ∙ sym (or_assoc (same_place x p) (among ps p) (among qs p))
 
 among_first : (p : Place) (ps : List Place) → among (p ∷ ps) p ≡ true
 unfolding among
@@ -63,11 +61,11 @@ module _ (d e : Disk) where
           let s = loaded_same p (a' p (among_first p _)) in
           rw (f, g, s) (read (loaded d p) (λ q h. a' q (among_rest p _ q h)))
         where
-          linked : (b : List ℕ) (l : Result Link Refusal) → Agree d e (after l (onward (λ q. looked d r n (met ++ p ∷ []) q))) →
+          linked : (b : List ℕ) (l : Result (Option Place) Refusal) → Agree d e (after l (onward (λ q. looked d r n (met ++ p ∷ []) q))) →
               and_then l (λ x. led x (met ++ p ∷ [], b) (λ q. chain_from e r n (met ++ p ∷ []) p q)) ≡ and_then l (λ x. led x (met ++ p ∷ [], b) (λ q. chain_from d r n (met ++ p ∷ []) p q))
           linked b (Err x) h = refl
-          linked b (Ok Stop) h = refl
-          linked b (Ok (Next q)) h = ih q h
+          linked b (Ok None) h = refl
+          linked b (Ok (Some q)) h = ih q h
 
           read : (v : Result (List ℕ) Refusal) → Agree d e (after (and_then v (link_of r p)) (onward (λ q. looked d r n (met ++ p ∷ []) q))) →
               and_then v (λ b. and_then (link_of r p b) (λ l. led l (met ++ p ∷ [], b) (λ q. chain_from e r n (met ++ p ∷ []) p q)))
@@ -78,7 +76,7 @@ module _ (d e : Disk) where
   -- a chain that was followed to its end has the blocks that were looked at
   pub chain_looked : (r : Route) (n : ℕ) (met : List Place) (from p : Place) (f : Followed) → chain_from d r n met from p ≡ Ok f → f.0 ≡ met ++ looked d r n met p
   unfolding looked chain_from
-  chain_looked r zero met from p f s = absurd (no_answer s)
+  chain_looked r zero met from p f s = cc
   chain_looked r (suc n) met from p f s =
       let t = chain_step d r n met from p f s in
       let o = visited_on_route d r (among met p) from p t.0 t.1 in

@@ -61,8 +61,7 @@ Readable d p = (b : List ℕ) × (loaded d p ≡ Ok b) × (length b ≡ 256)
 
 -- a chain that holds that many bytes, and a buffer that has room for them
 pub record Fills (d : Disk) (c : Chain) (total room : ℕ) : Type 0 where
-  pub count : c.count ≤ 683
-  pub readable : AllByRecursion (Readable d) (take c.count c.places)
-  pub low : 254 * (c.count - 1) ≤ total
-  pub high : total ≤ 254 * c.count
+  pub readable : AllByRecursion (Readable d) c.places.items
+  pub low : 254 * (length c.places.items - 1) ≤ total
+  pub high : total ≤ 254 * length c.places.items
   pub fits : total ≤ room

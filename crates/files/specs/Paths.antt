@@ -1,12 +1,10 @@
 -- Which blocks are looked at.
-use Rattle.std.specs.Prelude.{◌≡◌, ℕ, zero, suc, true, cond, List, [], ◌∷◌, ◌++◌, Ok, Err, Result}
+use Rattle.std.specs.Prelude.{◌≡◌, ℕ, zero, suc, true, cond, List, [], ◌∷◌, ◌++◌, Some, None, Option, Ok, Err, Result}
 use Rattle.disk.specs.declared.refusal.Refusal.{Refusal}
 use Rattle.disk.specs.Geometry.{Place}
 use Rattle.sector.specs.Source.{Disk, loaded, and_then}
 use Rattle.chains.specs.declared.route.Route.{Route}
 use Rattle.chains.specs.declared.route.Route.TheVariants.{File, Search}
-use Rattle.chains.specs.declared.route.Link.{Link}
-use Rattle.chains.specs.declared.route.Link.TheVariants.{Stop, Next}
 use Rattle.chains.specs.Sets.{among}
 use Rattle.directory.specs.Names.{named}
 use Rattle.chains.specs.Chains.{on_route, link_of}
@@ -17,9 +15,9 @@ abbrev pub after : {X : Type 0} → Result X Refusal → (X → List Place) → 
 after (Ok x) k = k x
 after (Err e) k = []
 
-abbrev pub onward : (Place → List Place) → Link → List Place
-onward k Stop = []
-onward k (Next q) = k q
+abbrev pub onward : (Place → List Place) → Option Place → List Place
+onward k None = []
+onward k (Some q) = k q
 
 -- the blocks that following a route from p on reads, where those of `met` were read before
 unfoldable pub looked : Disk → Route → ℕ → List Place → Place → List Place

@@ -19,14 +19,14 @@ pub struct Extent {
 
 // The extent of a file's chain: each block but the last has 254 bytes, and the last says where its last byte is.
 fn extent_of(chain: &Chain) -> Extent
-    requires { (0 < chain.now.count) × (chain.now.count ≤ 683) }
-    ensures blocks { result.blocks ≡ chain.now.count }
-    ensures bytes { result.bytes ≡ 254 * (chain.now.count - 1) + (slice_index chain.now.block 1 - 1) }
+    ensures blocks { result.blocks ≡ length chain.now.places.items }
+    ensures bytes { result.bytes ≡ 254 * (length chain.now.places.items - 1) + (slice_index chain.now.block 1 - 1) }
 {
+    let blocks = chain.places.len();
     let used = (chain.block[1] as usize).saturating_sub(1);
     Extent {
-        bytes: 254 * (chain.count - 1) + used,
-        blocks: chain.count,
+        bytes: 254 * (blocks - 1) + used,
+        blocks,
     }
 }
 
@@ -41,12 +41,13 @@ fn copy_block(block: &[u8; 256], k: usize, total: usize, buffer: &mut [u8])
 }
 
 // Copies the first `total` bytes of a file, whose blocks were all read before.
+#[tactic(auto, using(crate::proofs::Files::copied_more))]
 fn copy_chain<D: SectorSource>(disk: &D, chain: &Chain, total: usize, buffer: &mut [u8])
     requires { Fills (D.SectorSource.contents disk.now) chain.now total (length buffer.old) }
-    ensures { buffer.new ≡ take total (all_data (D.SectorSource.contents disk.now) (take chain.now.count chain.now.places)) ++ drop total buffer.old }
+    ensures { buffer.new ≡ take total (all_data (D.SectorSource.contents disk.now) chain.now.places.items) ++ drop total buffer.old }
 {
-    for k in 0..chain.count {
-        let block = load(disk, chain.places[k]).unwrap();
+    for (k, place) in chain.places.iter().enumerate() {
+        let block = load(disk, *place).unwrap();
         copy_block(&block, k, total, buffer);
     }
 }

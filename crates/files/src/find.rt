@@ -1,9 +1,10 @@
 // From a name to its entry and its chain.
-ghost use Rattle.std.specs.Prelude.{◌≡◌, ℕ, ◌<◌, ◌≤◌, true, length, take, IfOk};
+ghost use Rattle.std.specs.Prelude.{◌≡◌};
 ghost use Rattle.files.specs.Found.{last_of, located, closed_at, file_chain};
 ghost use Rattle.chains.specs.Told.{told};
 
 use chains::chain::*;
+use chains::follow::*;
 use chains::route::*;
 use directory::entry::*;
 use directory::kind::*;
@@ -22,25 +23,23 @@ pub struct Located {
 
 // The last block of a chain.
 fn last_place(chain: &Chain) -> Place
-    requires { (0 < chain.now.count) × (chain.now.count ≤ 683) }
-    ensures { result ≡ last_of (take chain.now.count chain.now.places) }
+    ensures { result ≡ last_of chain.now.places.items }
 {
-    chain.places[chain.count - 1]
+    *chain.places.last().unwrap()
 }
 
 // The first filled slot of the name, looking no further along the directory than that.
+#[tactic(auto, unfolding(crate::specs::Found::located))]
 pub fn locate<D: SectorSource>(disk: &D, name: &[u8]) -> Result<Located, Refusal>
     ensures { result ≡ located (D.SectorSource.contents disk.now) name.now }
 {
     let title = entry_name(name)?;
     let chain = follow(disk, &Route::Search(title), (18, 0), (18, 1))?;
-    match named_slot(&chain.block, &title) {
-        Some(slot) => Ok(Located {
-            at: last_place(&chain),
-            entry: entry_at(&chain.block, slot),
-        }),
-        None => Err(Refusal::by_volume(Cause::NotFound, (0, 0))),
-    }
+    let slot = named_slot(&chain.block, &title).ok_or(Refusal::by_volume(Cause::NotFound, (0, 0)))?;
+    Ok(Located {
+        at: last_place(&chain),
+        entry: entry_at(&chain.block, slot),
+    })
 }
 
 // Accepts the entry of a closed file.
@@ -55,9 +54,9 @@ fn check_closed(found: &Located) -> Result<(), Refusal>
 }
 
 // The blocks of the closed file of the name.
+#[tactic(auto, unfolding(crate::specs::Found::file_chain))]
 pub fn find_file<D: SectorSource>(disk: &D, name: &[u8]) -> Result<Chain, Refusal>
-    ensures value { told result ≡ file_chain (D.SectorSource.contents disk.now) name.now }
-    ensures within { IfOk result (λ c. (0 < c.count) × (c.count ≤ 683)) }
+    ensures { told result ≡ file_chain (D.SectorSource.contents disk.now) name.now }
 {
     let found = locate(disk, name)?;
     check_closed(&found)?;

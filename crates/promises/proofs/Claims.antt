@@ -1,5 +1,5 @@
 -- Blocks given to one owner: which they were, and when it goes.
-use Rattle.std.proofs.Common.{◌≡◌, ℕ, zero, suc, Bool, true, false, cond, ◌||◌, eqb, ◌⊎◌, List, [], ◌∷◌, ◌++◌, Ok, Err, sym, refl, ap, ◌∙◌, subst, inl, inr, arith}
+use Rattle.std.proofs.Common.{◌≡◌, ℕ, zero, suc, Bool, true, false, cond, ◌||◌, eqb, ◌⊎◌, List, [], ◌∷◌, ◌++◌, Some, None, Option, Ok, Err, sym, refl, ap, ◌∙◌, subst, inl, inr, arith}
 use mathlib.Core.Path.{fun_ext}
 use Rattle.std.proofs.lemmas.Bool.{eqb-true, eq-eqb, or_parts, or_from, or_cases, true≢false, cond-true, cond-false, cases_Bool}
 use Rattle.std.proofs.lemmas.Bool.Decides.{nat_tests}
@@ -8,8 +8,6 @@ use Rattle.disk.specs.Geometry.{Place, same_place}
 use Rattle.disk.specs.Refusals.{by_volume}
 use Rattle.sector.specs.Source.{Disk}
 use Rattle.chains.specs.declared.route.Route.{Route}
-use Rattle.chains.specs.declared.route.Link.TheVariants.{Stop, Next}
-use Rattle.chains.specs.declared.route.Link.{Link}
 use Rattle.chains.specs.Sets.{among}
 use Rattle.chains.specs.Chains.{on_route, visited, link_of, Followed, led, chain_from}
 use Rattle.chains.proofs.Chains.{no_answer, visited_on_route}
@@ -88,9 +86,9 @@ chain_apart d r (suc n) met from p f e a =
     let m : Apart (met ++ p ∷ []) = apart_push met p a (visited_unmet d r (among met p) from p v.0 v.1) in
     go l.0 v.0 l.2 m (λ q h. chain_apart d r n (met ++ p ∷ []) p q f h m)
   where
-    go : (k : Link) (b : List ℕ) → led k (met ++ p ∷ [], b) (λ q. chain_from d r n (met ++ p ∷ []) p q) ≡ Ok f → Apart (met ++ p ∷ []) → ((q : Place) → chain_from d r n (met ++ p ∷ []) p q ≡ Ok f → Apart f.0) → Apart f.0
-    go Stop b h m ih = let z : (met ++ p ∷ [], b) ≡ f = cc in subst (λ (x : Followed). Apart x.0) z m
-    go (Next q) b h m ih = ih q h
+    go : (k : Option Place) (b : List ℕ) → led k (met ++ p ∷ [], b) (λ q. chain_from d r n (met ++ p ∷ []) p q) ≡ Ok f → Apart (met ++ p ∷ []) → ((q : Place) → chain_from d r n (met ++ p ∷ []) p q ≡ Ok f → Apart f.0) → Apart f.0
+    go None b h m ih = let z : (met ++ p ∷ [], b) ≡ f = cc in subst (λ (x : Followed). Apart x.0) z m
+    go (Some q) b h m ih = ih q h
 
 -- every block of a chain that was followed is on the route
 pub chain_on_route : (d : Disk) (r : Route) (n : ℕ) (met : List Place) (from p : Place) (f : Followed) → chain_from d r n met from p ≡ Ok f
@@ -107,10 +105,10 @@ chain_on_route d r (suc n) met from p f e a =
     pushed q (inl h) o = a q h
     pushed q (inr h) o = ap (on_route r) (sym (same_true p q h)) ∙ o
 
-    go : (k : Link) (b : List ℕ) → led k (met ++ p ∷ [], b) (λ q. chain_from d r n (met ++ p ∷ []) p q) ≡ Ok f → ((q : Place) → among (met ++ p ∷ []) q ≡ true → on_route r q ≡ true)
+    go : (k : Option Place) (b : List ℕ) → led k (met ++ p ∷ [], b) (λ q. chain_from d r n (met ++ p ∷ []) p q) ≡ Ok f → ((q : Place) → among (met ++ p ∷ []) q ≡ true → on_route r q ≡ true)
         → ((q : Place) → chain_from d r n (met ++ p ∷ []) p q ≡ Ok f → (x : Place) → among f.0 x ≡ true → on_route r x ≡ true) → (x : Place) → among f.0 x ≡ true → on_route r x ≡ true
-    go Stop b h m ih = let z : (met ++ p ∷ [], b) ≡ f = cc in subst (λ (y : Followed). (x : Place) → among y.0 x ≡ true → on_route r x ≡ true) z m
-    go (Next q) b h m ih = ih q h
+    go None b h m ih = let z : (met ++ p ∷ [], b) ≡ f = cc in subst (λ (y : Followed). (x : Place) → among y.0 x ≡ true → on_route r x ≡ true) z m
+    go (Some q) b h m ih = ih q h
 
 -- so what is off the route is none of them
 pub not_on_route : (d : Disk) (r : Route) (n : ℕ) (from p : Place) (f : Followed) (q : Place) → chain_from d r n [] from p ≡ Ok f → on_route r q ≡ false → among f.0 q ≡ false

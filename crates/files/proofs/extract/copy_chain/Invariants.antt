@@ -4,4 +4,4 @@ use Rattle.files.proofs.extract.copy_chain.Given as goal
 
 abbrev pub invariant-loop-k : goal.invariant-loop-k
 invariant-loop-k g l =
-    l.buffer ≡ take (min (254 * l.k) l.total) (all_data (g.D.SectorSource.contents l.disk) (take l.chain.count l.chain.places)) ++ drop (min (254 * l.k) l.total) l.initial.buffer
+    l.buffer ≡ take (min (254 * l.k) l.total) (all_data (g.D.SectorSource.contents l.disk) l.chain.places.items) ++ drop (min (254 * l.k) l.total) l.initial.buffer
