@@ -31,13 +31,13 @@ full d Directory met from p c h = go (on_route Directory p) refl (among met p) r
     go : (x : Bool) → on_route Directory p ≡ x → (y : Bool) → among met p ≡ y → visited d Directory (among met p) from p ≡ Err (by_volume BadStructure from)
     go false f y g = rw f
     go true f true g = rw (f, g)
-    go true f false g = let w = few Directory (met ++ p ∷ []) (counted_more Directory met p f g c) in let l = length_push met p in absurd (omega arith)
+    go true f false g = let w = few Directory (met ++ p ∷ []) (counted_more Directory met p f c g) in let l = length_push met p in absurd (omega arith)
 full d (Search n) met from p c h = go (on_route (Search n) p) refl (among met p) refl
   where
     go : (x : Bool) → on_route (Search n) p ≡ x → (y : Bool) → among met p ≡ y → visited d (Search n) (among met p) from p ≡ Err (by_volume BadStructure from)
     go false f y g = rw f
     go true f true g = rw (f, g)
-    go true f false g = let w = few (Search n) (met ++ p ∷ []) (counted_more (Search n) met p f g c) in let l = length_push met p in absurd (omega arith)
+    go true f false g = let w = few (Search n) (met ++ p ∷ []) (counted_more (Search n) met p f c g) in let l = length_push met p in absurd (omega arith)
 
 enough : (d : Disk) (r : Route) (m n : ℕ) (met : List Place) (from p : Place) → Counted r met → most r ≤ length met + m → chain_from d r (m + n) met from p ≡ chain_from d r m met from p
 unfolding chain_from
@@ -56,7 +56,7 @@ enough d r (suc m) n met from p c h =
     go (Ok b) v ih = linked (link_of r p b)
       where
         counted : Counted r (met ++ p ∷ [])
-        counted = counted_more r met p (visited_on_route d r (among met p) from p b v) (visited_unmet d r (among met p) from p b v) c
+        counted = counted_more r met p (visited_on_route d r (among met p) from p b v) c (visited_unmet d r (among met p) from p b v)
 
         linked : (l : Result (Option Place) Refusal) → and_then l (λ x. led x (met ++ p ∷ [], b) (λ q. chain_from d r (m + n) (met ++ p ∷ []) p q)) ≡ and_then l (λ x. led x (met ++ p ∷ [], b) (λ q. chain_from d r m (met ++ p ∷ []) p q))
         linked (Err x) = refl

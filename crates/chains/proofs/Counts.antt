@@ -1,59 +1,20 @@
 -- How many blocks a route can have.
-use Rattle.std.proofs.Common.{◌≡◌, ℕ, zero, suc, ◌+◌, ◌-◌, ◌<◌, ◌≤◌, Bool, true, false, cond, ◌||◌, ltb, List, [], ◌∷◌, ◌++◌, length, sym, refl, ap, ◌∙◌, inl, inr, add-one, arith}
+use Rattle.std.proofs.Common.{◌≡◌, ℕ, ◌+◌, ◌-◌, ◌<◌, ◌≤◌, true, false, cond, ◌||◌, eqb, ltb, List, [], ◌∷◌, ◌++◌, map, length, sym, ap, ◌∙◌, subst, inl, inr, arith}
+use Rattle.std.specs.List.{IsDistinct, list_any}
+use Rattle.std.proofs.lemmas.Bool.{cases_Bool, eqb-true, false≢true, or_cases, or_left, or_right}
+use Rattle.std.proofs.lemmas.Bool.Decides.{nat_tests}
+use Rattle.std.proofs.lemmas.Cmp.{nat_eq_equiv}
+use Rattle.std.proofs.lemmas.List.{length-map, map-append}
+use Rattle.std.proofs.lemmas.List.Folds.{list_any-append}
+use Rattle.std.proofs.lemmas.Map.Keys.{IsDistinct-push}
+use Rattle.std.proofs.lemmas.Map.Steps.{length-le_from_distinct_below}
 use Rattle.std.proofs.Math.Bool.{or-false}
-use Rattle.std.proofs.lemmas.Bool.Decides.{nat_tests, eqb_tells}
-use Rattle.std.proofs.lemmas.Bool.{cases_Bool}
-use Rattle.std.proofs.lemmas.List.{length_push}
 use Rattle.disk.specs.Geometry.{Place, legal, index_of, track_at, sector_at, same_place}
 use Rattle.chains.specs.declared.route.Route.{Route}
 use Rattle.chains.specs.declared.route.Route.TheVariants.{File, Directory, Search}
 use Rattle.chains.specs.Sets.{among}
 use Rattle.chains.specs.Chains.{on_route}
-use Rattle.chains.proofs.Sets.{same_refl, same_true, among_push}
-
--- how many of the numbers below n pass
-abbrev one : Bool → ℕ
-one b = cond b 1 0
-
-pub count : (ℕ → Bool) → ℕ → ℕ
-count f zero = 0
-count f (suc n) = one (f n) + count f n
-
-one_le : (b : Bool) → one b ≤ 1
-one_le true = omega arith
-one_le false = omega arith
-
-pub count_le : (f : ℕ → Bool) (n : ℕ) → count f n ≤ n
-unfolding count
-count_le f zero = omega arith
-count_le f (suc n) = let i = count_le f n in let o = one_le (f n) in omega arith
-
-pub count_none : (f : ℕ → Bool) (n : ℕ) → ((i : ℕ) → f i ≡ false) → count f n ≡ 0
-unfolding count
-count_none f zero h = refl
-count_none f (suc n) h = let i = count_none f n h in let o = ap one (h n) in omega arith
-
-count_same : (f g : ℕ → Bool) (n : ℕ) → ((i : ℕ) → i < n → f i ≡ g i) → count f n ≡ count g n
-unfolding count
-count_same f g zero h = refl
-count_same f g (suc n) h =
-    let e = count_same f g n (λ i l. h i (omega arith)) in
-    let o = ap one (h n (omega arith)) in
-    omega arith
-
--- one more passes
-pub count_more : (f g : ℕ → Bool) (n k : ℕ) → k < n → f k ≡ false → g k ≡ true → ((i : ℕ) → i < n → (i ≡ k → ⊥) → f i ≡ g i) → count g n ≡ suc (count f n)
-unfolding count
-count_more f g zero k l a b h = absurd (omega arith)
-count_more f g (suc n) k l a b h = elim (eqb_tells n k) [
-  | inl e ↦ (let s = count_same f g n (λ i m. h i (omega arith) (omega (arith, e.1))) in
-      let x : one (f n) ≡ 0 = ap (λ (j : ℕ). one (f j)) e.1 ∙ ap one a in
-      let y : one (g n) ≡ 1 = ap (λ (j : ℕ). one (g j)) e.1 ∙ ap one b in
-      omega arith)
-  | inr e ↦ (let s = count_more f g n k (omega (arith, e.1)) a b (λ i m d. h i (omega arith) d) in
-      let o = ap one (h n (omega arith) e.1) in
-      omega arith)
-]
+use Rattle.chains.proofs.Sets.{same_refl, among_push}
 
 -- the blocks that a route may lead over, numbered
 unfoldable pub room : Route → ℕ
@@ -77,12 +38,6 @@ number_within File p h = grind (arith, nat_tests)
 number_within Directory p h = grind (arith, nat_tests)
 number_within (Search n) p h = grind (arith, nat_tests)
 
-number_nth : (r : Route) (i : ℕ) → i < room r → number r (nth r i) ≡ i
-unfolding number nth room index_of
-number_nth File i h = grind (arith, nat_tests)
-number_nth Directory i h = omega arith
-number_nth (Search n) i h = omega arith
-
 nth_track : (r : Route) (p : Place) → on_route r p ≡ true → (nth r (number r p)).0 ≡ p.0
 unfolding number nth legal index_of
 nth_track File p h = grind (arith, nat_tests)
@@ -98,30 +53,43 @@ nth_sector (Search n) p h = grind (arith, nat_tests)
 nth_number : (r : Route) (p : Place) → on_route r p ≡ true → nth r (number r p) ≡ p
 nth_number r p h = λ i. (nth_track r p h i, nth_sector r p h i)
 
--- the places in the list are so many blocks of the route
-abbrev pub Counted : Route → List Place → Type 0
-Counted r ps = count (λ i. among ps (nth r i)) (room r) ≡ length ps
+-- the places in the list have numbers of their own among those of the route's blocks
+pub record Counted (r : Route) (ps : List Place) : Type 0 where
+  pub apart : IsDistinct eqb (map (number r) ps)
+  pub stand : (k : ℕ) → list_any (eqb k) (map (number r) ps) ≡ true → (k < room r) × (among ps (nth r k) ≡ true)
 
 pub counted_none : (r : Route) → Counted r []
-unfolding among
-counted_none r = count_none (λ i. false) (room r) (λ i. refl)
+unfolding IsDistinct
+counted_none r = record { apart = tt; stand = λ k h. absurd (false≢true h) }
 
-pub counted_more : (r : Route) (ps : List Place) (p : Place) → on_route r p ≡ true → among ps p ≡ false → Counted r ps → Counted r (ps ++ p ∷ [])
-counted_more r ps p h f c =
-    let w = number_within r p h in
-    let e = nth_number r p h in
-    let before : among ps (nth r (number r p)) ≡ false = ap (among ps) e ∙ f in
-    let after : among (ps ++ p ∷ []) (nth r (number r p)) ≡ true = ap (among (ps ++ p ∷ [])) e ∙ among_push ps p p ∙ rw (f, same_refl p) in
-    count_more (λ i. among ps (nth r i)) (λ i. among (ps ++ p ∷ []) (nth r i)) (room r) (number r p) w before after
-    (λ i l d. sym (among_push ps p (nth r i) ∙ ap (λ b. among ps (nth r i) || b) (apart i l d) ∙ or-false (among ps (nth r i))))
-    ∙ ap suc c ∙ sym (length_push ps p ∙ add-one (length ps))
-  where
-    apart : (i : ℕ) → i < room r → (i ≡ number r p → ⊥) → same_place p (nth r i) ≡ false
-    apart i l d = elim (cases_Bool (same_place p (nth r i))) [
-      | inl t ↦ absurd (d (sym (number_nth r i l) ∙ ap (number r) (sym (same_true p (nth r i) t))))
-      | inr t ↦ t
-    ]
+module _ (r : Route) (ps : List Place) (p : Place) (h : on_route r p ≡ true) (c : Counted r ps) where
+  pushed : map (number r) (ps ++ p ∷ []) ≡ map (number r) ps ++ number r p ∷ []
+  pushed = map-append (number r) ps (p ∷ [])
+
+  fresh : among ps p ≡ false → list_any (eqb (number r p)) (map (number r) ps) ≡ false
+  fresh f = elim (cases_Bool (list_any (eqb (number r p)) (map (number r) ps))) [
+    | inl t ↦ absurd (false≢true (sym f ∙ ap (among ps) (sym (nth_number r p h)) ∙ (c.stand (number r p) t).1))
+    | inr t ↦ t
+  ]
+
+  stands : (k : ℕ) → list_any (eqb k) (map (number r) ps ++ number r p ∷ []) ≡ true → (k < room r) × (among (ps ++ p ∷ []) (nth r k) ≡ true)
+  stands k t = elim (or_cases (list_any (eqb k) (map (number r) ps)) (eqb k (number r p) || false) (sym (list_any-append (eqb k) (map (number r) ps) (number r p ∷ [])) ∙ t)) [
+    | inl old ↦ (let s = c.stand k old in (s.0, among_push ps p (nth r k) ∙ or_left (among ps (nth r k)) (same_place p (nth r k)) s.1))
+    | inr new ↦
+        (let e : k ≡ number r p = eqb-true k (number r p) (sym (or-false (eqb k (number r p))) ∙ new) in
+        let w = number_within r p h in
+        (omega arith, among_push ps p (nth r k) ∙ or_right (among ps (nth r k)) (same_place p (nth r k)) (ap (λ (j : ℕ). same_place p (nth r j)) e ∙ ap (same_place p) (nth_number r p h) ∙ same_refl p)))
+  ]
+
+  pub counted_more : among ps p ≡ false → Counted r (ps ++ p ∷ [])
+  counted_more f = record {
+    apart = subst (IsDistinct eqb) (sym pushed) (IsDistinct-push nat_eq_equiv (map (number r) ps) (number r p) c.apart (fresh f));
+    stand = λ k t. stands k (ap (list_any (eqb k)) (sym pushed) ∙ t);
+  }
 
 -- no route has more blocks than there are
 pub few : (r : Route) (ps : List Place) → Counted r ps → length ps ≤ room r
-few r ps c = let l = count_le (λ i. among ps (nth r i)) (room r) in omega arith
+few r ps c =
+    let l = length-map ps (number r) in
+    let m = length-le_from_distinct_below (map (number r) ps) (room r) c.apart (λ k t. (c.stand k t).0) in
+    omega arith

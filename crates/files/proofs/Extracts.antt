@@ -1,26 +1,20 @@
 -- What is known of a file that was found, and of its bytes.
-use Rattle.std.proofs.Common.{◌≡◌, ℕ, ◌*◌, ◌<◌, ◌≤◌, List, [], ◌++◌, length, take, drop, Ok, Err, Result, sym, refl, ap, ◌∙◌, arith}
+use Rattle.std.proofs.Common.{◌≡◌, ℕ, ◌*◌, ◌<◌, ◌≤◌, List, [], ◌++◌, length, take, drop, Ok, Err, sym, ap, ◌∙◌, arith}
 use Rattle.std.specs.List.{AllByRecursion}
 use Rattle.std.proofs.lemmas.List.{length-take-le}
 use Rattle.std.proofs.lemmas.Bool.{lt-ltb, le-ltb}
 use Rattle.disk.specs.declared.cause.Cause.TheVariants.{ShortBuffer}
-use Rattle.disk.specs.declared.refusal.Refusal.{Refusal}
 use Rattle.disk.specs.Geometry.{Place}
 use Rattle.disk.specs.Refusals.{by_caller}
-use Rattle.sector.specs.Source.{Disk, Whole, and_then}
+use Rattle.sector.specs.Source.{Disk, Whole}
 use Rattle.chains.specs.declared.chain.Chain.{Chain}
 use Rattle.files.specs.declared.extract.Extent.{Extent}
 use Rattle.chains.specs.declared.route.Route.TheVariants.{File}
 use Rattle.chains.specs.Chains.{Followed}
 use Rattle.files.specs.Found.{last_of, located, closed_at, file_chain}
 use Rattle.files.specs.Files.{Readable, all_data, size_of, bytes_of, measured, extract_answer, extract_buffer, Fills}
-use Rattle.files.proofs.Followed.{loaded_whole, Walked, chain_walked}
+use Rattle.files.proofs.Followed.{came_from, loaded_whole, Walked, chain_walked}
 use Rattle.files.proofs.Files.{all_length}
-
--- an accepted step came before what was accepted
-pub came_from : {X Y : Type 0} (r : Result X Refusal) (k : X → Result Y Refusal) (y : Y) → and_then r k ≡ Ok y → (x : X) × (r ≡ Ok x) × (k x ≡ Ok y)
-came_from (Ok x) k y e = (x, refl, e)
-came_from (Err z) k y e = cc
 
 module _ (d : Disk) (whole : (p : Place) → Whole (d p)) where
   pub file_walked : (name : List ℕ) (f : Followed) → file_chain d name ≡ Ok f → Walked d whole f

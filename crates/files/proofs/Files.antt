@@ -1,19 +1,12 @@
 -- The data of a chain's blocks, one after another, and a buffer that takes it up.
 use Rattle.std.proofs.Common.{◌≡◌, ℕ, zero, suc, ◌+◌, ◌-◌, ◌*◌, ◌<◌, ◌≤◌, min, List, [], ◌∷◌, ◌++◌, length, get_or, take, drop, Ok, sym, refl, ap, ◌∙◌, arith}
-use lib.Seq.{take-append-add}
+use Rattle.std.proofs.Math.Seq.{take-add}
 use Rattle.std.specs.List.{AllByRecursion}
 use Rattle.std.proofs.ByRecursion.{All-get_or}
-use Rattle.std.proofs.lemmas.List.{append_assoc, length-append, length-take-le, length-drop, drop-drop, drop_at, take_at, take-append-drop, take-append-le, at_drop_more}
+use Rattle.std.proofs.lemmas.List.{append_assoc, length-append, length-take-le, length-drop, drop-drop, drop_at, take_at, take-append-le, at_drop_more}
 use Rattle.disk.specs.Geometry.{Place}
 use Rattle.sector.specs.Source.{Disk, loaded}
 use Rattle.files.specs.Files.{held, block_data, all_data, Readable}
-
-take-add : (m n : ℕ) (xs : List ℕ) → m ≤ length xs → take (m + n) xs ≡ take m xs ++ take n (drop m xs)
-take-add m n xs h =
-    let l = length-take-le m xs h in
-    ap (take (m + n)) (sym (take-append-drop m xs))
-    ∙ ap (λ (j : ℕ). take (j + n) (take m xs ++ drop m xs)) (sym l)
-    ∙ take-append-add (take m xs) (drop m xs) n
 
 -- a buffer that holds the first m bytes of `all`, and is written n further
 taken_up : (all old buf : List ℕ) (m n : ℕ) → buf ≡ take m all ++ drop m old → m + n ≤ length all → m + n ≤ length old →
@@ -25,7 +18,7 @@ taken_up all old buf m n e h l =
     ap (drop (m + n)) e ∙ sym (drop-drop n m (take m all ++ drop m old)) ∙ ap (drop n) (drop_at (take m all) (drop m old) m t) ∙ drop-drop n m old in
     (λ i. a i ++ (take n (drop m all) ++ b i))
     ∙ sym (append_assoc (take m all) (take n (drop m all)) (drop (m + n) old))
-    ∙ ap (λ (x : List ℕ). x ++ drop (m + n) old) (sym (take-add m n all (omega arith)))
+    ∙ ap (λ (x : List ℕ). x ++ drop (m + n) old) (sym (take-add m n all))
 
 module _ (d : Disk) where
   data_is : (p : Place) (b : List ℕ) → loaded d p ≡ Ok b → block_data d p ≡ drop 2 b

@@ -13,7 +13,7 @@ use Rattle.chains.specs.Chains.{on_route, visited, link_of, Followed, led, chain
 use Rattle.files.specs.Found.{last_of}
 use Rattle.files.specs.Files.{Readable}
 
--- a refusal is no answer
+-- a block that was visited was read
 pub visited_loaded : (d : Disk) (r : Route) (met : Bool) (from p : Place) (b : List ℕ) → visited d r met from p ≡ Ok b → loaded d p ≡ Ok b
 unfolding visited
 visited_loaded d r met from p b e = go (on_route r p) refl met refl
@@ -23,24 +23,25 @@ visited_loaded d r met from p b e = go (on_route r p) refl met refl
     go true f true g = cc (rw (f, g) at e)
     go true f false g = rw (f, g) at e
 
+-- an accepted step came before what was accepted
+pub came_from : {X Y : Type 0} (r : Result X Refusal) (k : X → Result Y Refusal) (y : Y) → and_then r k ≡ Ok y → (x : X) × (r ≡ Ok x) × (k x ≡ Ok y)
+came_from (Ok x) k y e = (x, refl, e)
+came_from (Err z) k y e = cc
+
 -- the first step of a chain that was followed to its end
 pub chain_step : (d : Disk) (r : Route) (n : ℕ) (met : List Place) (from p : Place) (f : Followed) → chain_from d r (suc n) met from p ≡ Ok f →
     (b : List ℕ) × (visited d r (among met p) from p ≡ Ok b) ×
     (((link_of r p b ≡ Ok None) × (◌≡◌ {A = Followed} (met ++ p ∷ [], b) f)) ⊎ ((q : Place) × (link_of r p b ≡ Ok (Some q)) × (chain_from d r n (met ++ p ∷ []) p q ≡ Ok f)))
 unfolding chain_from
-chain_step d r n met from p f e = go (visited d r (among met p) from p) refl e
+chain_step d r n met from p f e =
+    let v = came_from (visited d r (among met p) from p) _ f e in
+    let l = came_from (link_of r p v.0) _ f v.2 in
+    (v.0, v.1, led_on v.0 l.0 l.1 l.2)
   where
-    linked : (b : List ℕ) (l : Result (Option Place) Refusal) → link_of r p b ≡ l → and_then l (λ x. led x (met ++ p ∷ [], b) (λ q. chain_from d r n (met ++ p ∷ []) p q)) ≡ Ok f →
+    led_on : (b : List ℕ) (l : Option Place) → link_of r p b ≡ Ok l → led l (met ++ p ∷ [], b) (λ q. chain_from d r n (met ++ p ∷ []) p q) ≡ Ok f →
         ((link_of r p b ≡ Ok None) × (◌≡◌ {A = Followed} (met ++ p ∷ [], b) f)) ⊎ ((q : Place) × (link_of r p b ≡ Ok (Some q)) × (chain_from d r n (met ++ p ∷ []) p q ≡ Ok f))
-    linked b (Err x) t s = cc
-    linked b (Ok None) t s = inl (t, cc)
-    linked b (Ok (Some q)) t s = inr (q, t, s)
-
-    go : (v : Result (List ℕ) Refusal) → visited d r (among met p) from p ≡ v → and_then v (λ b. and_then (link_of r p b) (λ l. led l (met ++ p ∷ [], b) (λ q. chain_from d r n (met ++ p ∷ []) p q))) ≡ Ok f →
-        (b : List ℕ) × (visited d r (among met p) from p ≡ Ok b) ×
-        (((link_of r p b ≡ Ok None) × (◌≡◌ {A = Followed} (met ++ p ∷ [], b) f)) ⊎ ((q : Place) × (link_of r p b ≡ Ok (Some q)) × (chain_from d r n (met ++ p ∷ []) p q ≡ Ok f)))
-    go (Err x) v s = cc
-    go (Ok b) v s = (b, v, linked b (link_of r p b) refl s)
+    led_on b None t s = inl (t, cc)
+    led_on b (Some q) t s = inr (q, t, s)
 
 module _ (d : Disk) (whole : (p : Place) → Whole (d p)) where
   pub loaded_whole : (p : Place) (b : List ℕ) → loaded d p ≡ Ok b → (length b ≡ 256) × Bytes b

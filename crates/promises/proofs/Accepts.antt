@@ -13,7 +13,7 @@ use Rattle.chains.specs.Sets.{among}
 use Rattle.chains.specs.Chains.{on_route, Followed, chain_of}
 use Rattle.chains.proofs.Chains.{no_answer}
 use Rattle.chains.proofs.Sets.{same_true}
-use Rattle.files.proofs.Extracts.{came_from}
+use Rattle.files.proofs.Followed.{came_from}
 use Rattle.sound.specs.Owners.{Owners, claimed, first_owners}
 use Rattle.sound.specs.Maps.{map_agrees}
 use Rattle.sound.specs.Slots.{slot_place, slot_entry, met_before, file_kept, by_type, slot_kept, slots_kept}

@@ -13,7 +13,7 @@ use Rattle.chains.specs.Chains.{on_route, visited, link_of, Followed, led, chain
 use Rattle.chains.proofs.Chains.{no_answer, visited_on_route}
 use Rattle.chains.proofs.Sets.{same_refl, same_true, among_push}
 use Rattle.chains.proofs.Bounds.{visited_unmet}
-use Rattle.files.proofs.Extracts.{came_from}
+use Rattle.files.proofs.Followed.{came_from}
 use Rattle.sound.specs.Owners.{Owners, given_to, claimed}
 
 pub same_sym : (p q : Place) → same_place p q ≡ same_place q p
