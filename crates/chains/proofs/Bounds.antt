@@ -9,7 +9,7 @@ use Rattle.sector.specs.Source.{Disk, and_then}
 use Rattle.chains.specs.declared.route.Route.{Route}
 use Rattle.chains.specs.declared.route.Route.TheVariants.{File, Directory, Search}
 use Rattle.chains.specs.Sets.{among}
-use Rattle.chains.specs.Chains.{on_route, visited, link_of, led, chain_from, most}
+use Rattle.chains.specs.Chains.{on_route, stray, visited, link_of, led, chain_from, most}
 use Rattle.chains.specs.Laws.{BoundEnough}
 use Rattle.chains.proofs.Chains.{visited_on_route}
 use Rattle.chains.proofs.Counts.{room, Counted, counted_none, counted_more, few}
@@ -22,22 +22,22 @@ visited_unmet d r met from p b e = go met refl
     go false g = g
     go true g = cc (rw (visited_on_route d r met from p b e, g) at e)
 
--- where every block of the route was met, the next link is refused as the bound refuses it
+-- where every block of the route was met, the next link is refused
+full_of : (d : Disk) (r : Route) (met : List Place) (from p : Place) → Counted r met → room r ≤ length met → stray r ≡ BadStructure → visited d r (among met p) from p ≡ Err (by_volume BadStructure from)
+unfolding visited
+full_of d r met from p c h s = go (on_route r p) refl (among met p) refl
+  where
+    go : (x : Bool) → on_route r p ≡ x → (y : Bool) → among met p ≡ y → visited d r (among met p) from p ≡ Err (by_volume BadStructure from)
+    go false f y g = rw (f, s)
+    go true f true g = rw (f, g)
+    go true f false g = let w = few r (met ++ p ∷ []) (counted_more r met p f c g) in let l = length_push met p in absurd (omega arith)
+
+-- and as the bound refuses it
 full : (d : Disk) (r : Route) (met : List Place) (from p : Place) → Counted r met → most r ≤ length met → visited d r (among met p) from p ≡ Err (by_volume BadStructure from)
-unfolding visited room
+unfolding room
 full d File met from p c h = let f = few File met c in absurd (omega arith)
-full d Directory met from p c h = go (on_route Directory p) refl (among met p) refl
-  where
-    go : (x : Bool) → on_route Directory p ≡ x → (y : Bool) → among met p ≡ y → visited d Directory (among met p) from p ≡ Err (by_volume BadStructure from)
-    go false f y g = rw f
-    go true f true g = rw (f, g)
-    go true f false g = let w = few Directory (met ++ p ∷ []) (counted_more Directory met p f c g) in let l = length_push met p in absurd (omega arith)
-full d (Search n) met from p c h = go (on_route (Search n) p) refl (among met p) refl
-  where
-    go : (x : Bool) → on_route (Search n) p ≡ x → (y : Bool) → among met p ≡ y → visited d (Search n) (among met p) from p ≡ Err (by_volume BadStructure from)
-    go false f y g = rw f
-    go true f true g = rw (f, g)
-    go true f false g = let w = few (Search n) (met ++ p ∷ []) (counted_more (Search n) met p f c g) in let l = length_push met p in absurd (omega arith)
+full d Directory met from p c h = full_of d Directory met from p c h refl
+full d (Search n) met from p c h = full_of d (Search n) met from p c h refl
 
 enough : (d : Disk) (r : Route) (m n : ℕ) (met : List Place) (from p : Place) → Counted r met → most r ≤ length met + m → chain_from d r (m + n) met from p ≡ chain_from d r m met from p
 unfolding chain_from

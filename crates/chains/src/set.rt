@@ -1,4 +1,4 @@
-// A set of blocks.
+// A set of blocks: a flag for each in place order, since a set of std would lie on the heap, where nothing in reading may.
 ghost use Rattle.std.specs.Prelude.{◌≡◌, ℕ};
 ghost use Rattle.chains.specs.Sets.{holds, nothing, with_place};
 

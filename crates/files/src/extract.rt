@@ -32,7 +32,7 @@ fn extent_of(chain: &Chain) -> Extent
 
 // Copies what the k-th block of a file has of its first `total` bytes.
 fn copy_block(block: &[u8; 256], k: usize, total: usize, buffer: &mut [u8])
-    requires { (k < 683) × (254 * k ≤ total) × (total ≤ length buffer.old) }
+    requires { (254 * k ≤ total) × (total ≤ length buffer.old) }
     ensures { buffer.new ≡ take (254 * k) buffer.old ++ (take (min (total - 254 * k) 254) (drop 2 block.now) ++ drop (254 * k + min (total - 254 * k) 254) buffer.old) }
 {
     let at = 254 * k;
