@@ -40,7 +40,7 @@ fn copy_block(block: &[u8; 256], k: usize, total: usize, buffer: &mut [u8])
     buffer[at..at + more].copy_from_slice(&block[2..2 + more]);
 }
 
-// Copies the first `total` bytes of a file, whose blocks were all read before.
+// Copies the first `total` bytes of a file, whose blocks were all read before. Not over `buffer[..total].chunks_mut(254)`, after which a proof knows no byte of the buffer: tried, and the goal `returns` stays open.
 #[tactic(auto, using(crate::proofs::Files::copied_more))]
 fn copy_chain<D: SectorSource>(disk: &D, chain: &Chain, total: usize, buffer: &mut [u8])
     requires { Fills (D.SectorSource.contents disk.now) chain.now total (length buffer.old) }
