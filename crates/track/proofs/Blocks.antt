@@ -1,6 +1,7 @@
-use Rattle.std.proofs.Common.{◌≡◌, ℕ, suc, ◌+◌, ◌-◌, ◌*◌, ◌<◌, ◌≤◌, Bool, cond, eqb, ltb, List, [], ◌∷◌, ◌++◌, length, get_or, take, drop, set, Some, None, Ok, Err, Option, sym, refl, ap, ◌∙◌, arith}
+use Rattle.std.proofs.Common.{◌≡◌, ℕ, suc, ◌+◌, ◌-◌, ◌*◌, ◌<◌, ◌≤◌, Bool, false, cond, not, eqb, ltb, List, [], ◌∷◌, ◌++◌, length, get_or, take, drop, set, Some, None, Ok, Err, Option, sym, refl, ap, ◌∙◌, arith}
 use Rattle.std.proofs.lemmas.List.{append_assoc, drop-drop, take_more_set, take_at, get_or_at, take_all}
-use Rattle.std.proofs.lemmas.Bool.{cond-true, cond-false, lt-ltb, le-ltb}
+use Rattle.std.proofs.lemmas.Bool.{cond-false, le-ltb, eqb-true, not-false, false≢true}
+use Rattle.std.specs.Option.{option_eq}
 use Rattle.track.specs.Headers.{byte_at}
 use Rattle.track.specs.Reading.{summed, data_of, is_data}
 use Rattle.gcr.specs.Codes.{bytes_in, if_some}
@@ -63,10 +64,10 @@ summed_is xs s n =
     ap (λ (l : List ℕ). cond (eqb (xor_all l) (get_or (xs ++ s ∷ []) 256 0)) (Ok l) (Err BadChecksum)) (take_at xs (s ∷ []) 256 n)
     ∙ ap (λ (z : ℕ). cond (eqb (xor_all xs) z) (Ok xs) (Err BadChecksum)) (get_or_at xs s [] 0 256 n)
 
-pub data_short : (f : List Bool) → Some 7 ≡ byte_at f 0 → length f < 2600 → data_of f ≡ Err ShortFrame
-data_short f e h =
-    ap (λ (o : Option ℕ). cond (is_data o) (cond (ltb (length f) 2600) (Err ShortFrame) (summed (bytes_in 257 (drop 10 f)))) (Err NoData)) (sym e)
-    ∙ cond-true (ltb (length f) 2600) (Err ShortFrame) (summed (bytes_in 257 (drop 10 f))) (lt-ltb (length f) 2600 h)
+-- a byte that was compared with $07
+pub is_seven : (o : Option ℕ) → false ≡ not (option_eq eqb o (Some 7)) → Some 7 ≡ o
+is_seven None e = absurd (false≢true e)
+is_seven (Some b) e = ap (λ (n : ℕ). Some n) (sym (eqb-true b 7 (not-false _ (sym e))))
 
 pub data_long : (f : List Bool) (o : Option (List ℕ)) → Some 7 ≡ byte_at f 0 → 2600 ≤ length f → bytes_in 257 (drop 10 f) ≡ o → data_of f ≡ summed o
 data_long f o e h v =

@@ -1,12 +1,16 @@
-use Rattle.std.proofs.Common.{◌≡◌, ℕ, suc, ◌+◌, ◌-◌, ◌*◌, ◌^◌, ◌<◌, ◌≤◌, Bool, true, false, cond, not, ◌&&◌, leb, List, [], ◌∷◌, length, get_or, take, drop, None, Option, sym, refl, ap, ◌∙◌, arith, pow-add}
-use Rattle.std.proofs.lemmas.List.{length-append, length-take, length-drop, length-take-le, get_or_append_left, get_or-append_right, get_or-drop, get_or-take, drop_more, drop_all}
-use Rattle.std.proofs.lemmas.Bool.{cond_both, cond-true, cond-false, lt-leb, le-leb}
+use Rattle.std.proofs.Common.{◌≡◌, ℕ, zero, suc, ◌+◌, ◌-◌, ◌*◌, ◌^◌, ◌<◌, ◌≤◌, Bool, true, false, cond, not, ◌&&◌, leb, List, [], ◌∷◌, length, get_or, take, drop, Some, None, Option, sym, refl, ap, ◌∙◌, subst, inl, inr, arith, pow-add}
+use Rattle.std.proofs.lemmas.List.{length-append, length-take, length-drop, length-take-le, get_or_append_left, get_or-append_right, get_or-drop, get_or-take, get_or_past, drop_more, drop_all}
+use Rattle.std.proofs.lemmas.Bool.{cond_both, cond-true, cond-false, lt-leb, le-leb, cases_lt}
+use mir.Val.{bool_byte}
+use Rattle.std.specs.List.{list_all, find, range_with_len}
+use Rattle.std.specs.Option.{unwrap_or, MatchOption}
 use Rattle.std.proofs.lemmas.List.Sums.{fold_more}
 use Rattle.gcr.specs.Bits.{bits_of, value, and_bit}
 use Rattle.gcr.specs.Codes.{byte_of, coded}
 use Rattle.gcr.proofs.Bits.{length_bits_of}
 use Rattle.track.specs.Headers.{byte_at, head_of, header}
-use Rattle.track.specs.Shown.{shown, Fine}
+use Rattle.track.specs.Shown.{circle_bits, shown}
+use Rattle.track.specs.declared.circle.Circle.{Circle}
 use Rattle.track.specs.declared.window.Window.{Window}
 use Rattle.track.specs.Circles.{circle_of, turned, ones, before, start, frames_from}
 
@@ -28,43 +32,29 @@ getD_turned_high k c i d g h l =
     ∙ get_or-take k c (i - (length c - k)) d (omega arith)
     ∙ ap (λ (n : ℕ). get_or c n d) (let e : i - (length c - k) ≡ k + i - length c = omega arith in e)
 
--- ones, one bit on
-pub ones_at : (a : List Bool) (n m i : ℕ) → n ≡ suc m → i < length a → ones n (drop i a) ≡ (get_or a i false && ones m (drop (i + 1) a))
-ones_at a n m i e h = ap (λ (k : ℕ). ones k (drop i a)) e ∙ ap (ones (suc m)) (drop_more a i false h)
+-- ten ones in a row, place by place
+pub ones_range : (a : List Bool) (i n : ℕ) → list_all (λ k. get_or a k false) (range_with_len i n) ≡ ones n (drop i a)
+ones_range a i zero = refl
+ones_range a i (suc n) = elim (cases_lt i (length a)) [
+  | inl h ↦ ap (λ (b : Bool). get_or a i false && b) (ones_range a (i + 1) n) ∙ sym (ap (ones (suc n)) (drop_more a i false h))
+  | inr h ↦ ap (λ (b : Bool). b && list_all (λ k. get_or a k false) (range_with_len (i + 1) n)) (get_or_past a i false h) ∙ sym (ap (ones (suc n)) (drop_all i a h))
+]
 
-pub ones_past : (a : List Bool) (n m i : ℕ) → n ≡ suc m → length a ≤ i → ones n (drop i a) ≡ false
-ones_past a n m i e h = ap (λ (k : ℕ). ones k (drop i a)) e ∙ ap (ones (suc m)) (drop_all i a h)
-
-pub ones_stops : (a : List Bool) (i j : ℕ) → ones 10 (drop i a) ≡ ones (10 - j) (drop (i + j) a) → j < 10 → length a ≤ i + j → false ≡ ones 10 (drop i a)
-ones_stops a i j v l h = sym (v ∙ ones_past a (10 - j) (9 - j) (i + j) (omega arith) h)
-
-pub ones_fails : (a : List Bool) (i j : ℕ) → ones 10 (drop i a) ≡ ones (10 - j) (drop (i + j) a) → j < 10 → i + j < length a → false ≡ get_or a (i + j) false
-    → false ≡ ones 10 (drop i a)
-ones_fails a i j v l h e =
-    sym (v ∙ ones_at a (10 - j) (9 - j) (i + j) (omega arith) h ∙ ap (λ (b : Bool). b && ones (9 - j) (drop (i + j + 1) a)) (sym e))
-
-pub ones_steps : (a : List Bool) (i j : ℕ) → ones 10 (drop i a) ≡ ones (10 - j) (drop (i + j) a) → j < 10 → i + j < length a → true ≡ get_or a (i + j) false
-    → ones 10 (drop i a) ≡ ones (10 - (j + 1)) (drop (i + (j + 1)) a)
-ones_steps a i j v l h e =
-    v ∙ ones_at a (10 - j) (9 - j) (i + j) (omega arith) h ∙ ap (λ (b : Bool). b && ones (9 - j) (drop (i + j + 1) a)) (sym e)
-    ∙ ap (λ (n : ℕ). ones n (drop (i + j + 1) a)) (let p : 9 - j ≡ 10 - (j + 1) = omega arith in p)
-    ∙ ap (λ (n : ℕ). ones (10 - (j + 1)) (drop n a)) (let p : i + j + 1 ≡ i + (j + 1) = omega arith in p)
-
--- the bits before ten ones, one bit on
-pub before_stops : (a : List Bool) (i n : ℕ) → n ≡ i + length (before (drop i a)) → i < length a → true ≡ ones 10 (drop i a) → n ≡ i
-before_stops a i n v h e =
-    v ∙ ap (λ (l : List Bool). i + length (before l)) (drop_more a i false h)
-    ∙ ap (λ (b : Bool). i + length (cond b [] (get_or a i false ∷ before (drop (i + 1) a)))) (sym (e ∙ ap (ones 10) (drop_more a i false h)))
-    ∙ (let p : i + 0 ≡ i = omega arith in p)
-
-pub before_steps : (a : List Bool) (i n : ℕ) → n ≡ i + length (before (drop i a)) → i < length a → false ≡ ones 10 (drop i a) → n ≡ (i + 1) + length (before (drop (i + 1) a))
-before_steps a i n v h e =
-    v ∙ ap (λ (l : List Bool). i + length (before l)) (drop_more a i false h)
-    ∙ ap (λ (b : Bool). i + length (cond b [] (get_or a i false ∷ before (drop (i + 1) a)))) (sym (e ∙ ap (ones 10) (drop_more a i false h)))
-    ∙ (let p : i + suc (length (before (drop (i + 1) a))) ≡ (i + 1) + length (before (drop (i + 1) a)) = omega arith in p)
-
-pub before_ends : (a : List Bool) (i n : ℕ) → n ≡ i + length (before (drop i a)) → length a ≤ i → n ≡ i
-before_ends a i n v h = v ∙ ap (λ (l : List Bool). i + length (before l)) (drop_all i a h) ∙ (let p : i + 0 ≡ i = omega arith in p)
+-- the bits before ten ones end at the first place of ten ones
+pub before_range : (a : List Bool) (i n m : ℕ) → i + n ≡ length a → m ≡ length a
+    → unwrap_or (find (λ k. ones 10 (drop k a)) (range_with_len i n)) m ≡ i + length (before (drop i a))
+before_range a i zero m e g =
+    (let z : m ≡ i + 0 = omega arith in z) ∙ ap (λ (l : List Bool). i + length (before l)) (sym (drop_all i a (omega arith)))
+before_range a i (suc n) m e g =
+    let b : Bool = get_or a i false in
+    let l : List Bool = drop (i + 1) a in
+    let ih : unwrap_or (find (λ k. ones 10 (drop k a)) (range_with_len (i + 1) n)) m ≡ (i + 1) + length (before l) = before_range a (i + 1) n m (omega arith) g in
+    subst (λ (x : List Bool). unwrap_or (cond (ones 10 x) (Some i) (find (λ k. ones 10 (drop k a)) (range_with_len (i + 1) n))) m ≡ i + length (before x))
+    (sym (drop_more a i false (omega arith)))
+    (elim (ones 10 (b ∷ l)) as (λ v. unwrap_or (cond v (Some i) (find (λ k. ones 10 (drop k a)) (range_with_len (i + 1) n))) m ≡ i + length (cond v [] (b ∷ before l))) [
+      | true ↦ (let z : i ≡ i + 0 = omega arith in z)
+      | false ↦ ih ∙ (let z : (i + 1) + length (before l) ≡ i + suc (length (before l)) = omega arith in z)
+    ])
 
 pub before_le : (a : List Bool) → length (before a) ≤ length a
 before_le [] = omega arith
@@ -76,21 +66,34 @@ take_before [] = refl
 take_before (b ∷ l) =
     cond_both (ones 10 (b ∷ l)) [] (b ∷ before l) (λ x. take (length x) (b ∷ l) ≡ x) (λ _. refl) (λ _. ap (λ (x : List Bool). b ∷ x) (take_before l))
 
-pub len : (first n : ℕ) (bs : List ℕ) → n ≤ length bs * 8 → length (turned first (circle_of n bs)) ≡ n
-len first n bs h = length_turned first (circle_of n bs) ∙ length_circle n bs h
+pub length_bits : (c : Circle) → length (circle_bits c) ≡ c.bits
+length_bits c = length_circle c.bits c.bytes.now c.held
+
+pub len : (first : ℕ) (c : Circle) → length (turned first (circle_bits c)) ≡ c.bits
+len first c = length_turned first (circle_bits c) ∙ length_bits c
 
 pub start_is : (a : List Bool) (b : ℕ) → false ≡ get_or a 0 false → b ≡ length a - 10 → ones 10 (drop b a) ≡ start a
 start_is a b e f =
     ap (λ (n : ℕ). ones 10 (drop n a)) f ∙ ap (λ (z : Bool). not z && ones 10 (drop (length a - 10) a)) e
 
+pub as_bit : (b : Bool) → bool_byte b ≡ cond b 1 0
+as_bit true = refl
+as_bit false = refl
+
+-- a number with one bit more
+pub bit_added : (code j code' : ℕ) (b : Bool) → code < 2 ^ j → code' ≡ code * 2 + cond b 1 0 → code' < 2 ^ (j + 1)
+bit_added code j code' b h f =
+    let p = pow-add 2 j 1 in
+    let q : cond b 1 0 ≤ 1 = cond_both b 1 0 (λ x. x ≤ 1) (λ _. omega arith) (λ _. omega arith) in
+    omega arith
+
 -- ten bits as a number
 pub byte_step : (l : List Bool) (j code code' : ℕ) (b : Bool) → code < 2 ^ j → code ≡ value (take j l) → j < length l → b ≡ get_or l j false → code' ≡ code * 2 + cond b 1 0
     → (code' < 2 ^ (j + 1)) × (code' ≡ value (take (j + 1) l))
-byte_step l j code code' b h v k e f =
-    let p = pow-add 2 j 1 in
-    let q : cond b 1 0 ≤ 1 = cond_both b 1 0 (λ x. x ≤ 1) (λ _. omega arith) (λ _. omega arith) in
-    let r : code' < 2 ^ (j + 1) = omega arith in
-    (r, f ∙ ap (λ (n : ℕ). n * 2 + cond b 1 0) v ∙ ap (λ (x : Bool). value (take j l) * 2 + cond x 1 0) e ∙ sym (fold_more and_bit 0 l j false k))
+byte_step l j code code' b h v k e f = (
+  bit_added code j code' b h f,
+  f ∙ ap (λ (n : ℕ). n * 2 + cond b 1 0) v ∙ ap (λ (x : Bool). value (take j l) * 2 + cond x 1 0) e ∙ sym (fold_more and_bit 0 l j false k),
+)
 
 pub coded_short : (l : List Bool) → length l < 10 → None ≡ coded l
 coded_short l h = sym (cond-false (leb 10 (length l)) (byte_of (value (take 10 l))) None (lt-leb 10 (length l) h))
@@ -98,10 +101,10 @@ coded_short l h = sym (cond-false (leb 10 (length l)) (byte_of (value (take 10 l
 pub coded_long : (l : List Bool) → 10 ≤ length l → byte_of (value (take 10 l)) ≡ coded l
 coded_long l h = sym (cond-true (leb 10 (length l)) (byte_of (value (take 10 l))) None (le-leb 10 (length l) h))
 
-pub length_shown : (w : Window) → Fine w → length (shown w) ≡ w.count
-length_shown w f =
-    length-take-le w.count (turned w.first (circle_of w.bits w.track.now))
-    (let e = len w.first w.bits w.track.now f.held in let h = f.within in omega arith)
+pub length_shown : (w : Window) → length (shown w) ≡ w.count
+length_shown w =
+    length-take-le w.count (turned w.first (circle_bits w.circle))
+    (let e = len w.first w.circle in let h = w.within in omega arith)
 
 pub head_is : (f : List Bool) (o0 o1 o2 o3 o4 o5 : Option ℕ) → o0 ≡ byte_at f 0 → o1 ≡ byte_at f 1 → o2 ≡ byte_at f 2 → o3 ≡ byte_at f 3 → o4 ≡ byte_at f 4 → o5 ≡ byte_at f 5
     → head_of o0 o1 o2 o3 o4 o5 ≡ header f
@@ -113,14 +116,38 @@ head_is f o0 o1 o2 o3 o4 o5 e0 e1 e2 e3 e4 e5 =
     ∙ ap (λ (o : Option ℕ). head_of (byte_at f 0) (byte_at f 1) (byte_at f 2) (byte_at f 3) o o5) e4
     ∙ ap (λ (o : Option ℕ). head_of (byte_at f 0) (byte_at f 1) (byte_at f 2) (byte_at f 3) (byte_at f 4) o) e5
 
-pub frames_skip : (c : List Bool) (p p' n n' : ℕ) → p' ≡ suc p → n ≡ suc n' → false ≡ start (turned p c) → frames_from c p n ≡ frames_from c p' n'
-frames_skip c p p' n n' e f s =
-    ap (frames_from c p) f
-    ∙ ap (λ (b : Bool). cond b (before (turned p c) ∷ frames_from c (suc p) n') (frames_from c (suc p) n')) (sym s)
-    ∙ ap (λ (q : ℕ). frames_from c q n') (sym e)
+-- the place at which the first of the frames among n places begins, or that none does
+abbrev pub Found : List Bool → ℕ → ℕ → Option ℕ → Type 0
+Found c p n o = MatchOption o (frames_from c p n ≡ []) (λ q. (p ≤ q) × (q < p + n) × (start (turned q c) ≡ true) × (frames_from c p (q - p) ≡ []))
 
-pub frames_take : (c : List Bool) (p p' n n' : ℕ) → p' ≡ suc p → n ≡ suc n' → true ≡ start (turned p c) → frames_from c p n ≡ before (turned p c) ∷ frames_from c p' n'
-frames_take c p p' n n' e f s =
+found_more : (c : List Bool) (p n : ℕ) (b : Bool) (o : Option ℕ) → start (turned p c) ≡ b → Found c (p + 1) n o → Found c p (suc n) (cond b (Some p) o)
+found_more c p n true o e h = (omega arith, omega arith, e, ap (frames_from c p) (let z : p - p ≡ 0 = omega arith in z))
+found_more c p n false None e h =
+    ap (λ (b : Bool). cond b (before (turned p c) ∷ frames_from c (suc p) n) (frames_from c (suc p) n)) e
+    ∙ ap (λ (q : ℕ). frames_from c q n) (let z : suc p ≡ p + 1 = omega arith in z) ∙ h
+found_more c p n false (Some q) e h =
+    let l = h.0 in (
+      omega arith,
+      omega arith,
+      h.2,
+      ap (frames_from c p) (let z : q - p ≡ suc (q - (p + 1)) = omega arith in z)
+          ∙ ap (λ (b : Bool). cond b (before (turned p c) ∷ frames_from c (suc p) (q - (p + 1))) (frames_from c (suc p) (q - (p + 1)))) e
+          ∙ ap (λ (r : ℕ). frames_from c r (q - (p + 1))) (let z : suc p ≡ p + 1 = omega arith in z) ∙ h.3,
+    )
+
+pub found : (c : List Bool) (p n : ℕ) → Found c p n (find (λ q. start (turned q c)) (range_with_len p n))
+found c p zero = refl
+found c p (suc n) = found_more c p n (start (turned p c)) (find (λ q. start (turned q c)) (range_with_len (p + 1) n)) refl (found c (p + 1) n)
+
+pub found_at : (c : List Bool) (p n q : ℕ) → Some q ≡ find (λ r. start (turned r c)) (range_with_len p n) → Found c p n (Some q)
+found_at c p n q e = subst (Found c p n) (sym e) (found c p n)
+
+pub found_below : (c : List Bool) (p n m : ℕ) (o : Option ℕ) → Found c p n o → p + n ≤ m → 0 < m → unwrap_or o 0 < m
+found_below c p n m None f h g = g
+found_below c p n m (Some q) f h g = let l = f.1 in omega arith
+
+pub frames_take : (c : List Bool) (p n m : ℕ) → n ≡ suc m → start (turned p c) ≡ true → frames_from c p n ≡ before (turned p c) ∷ frames_from c (p + 1) m
+frames_take c p n m f s =
     ap (frames_from c p) f
-    ∙ ap (λ (b : Bool). cond b (before (turned p c) ∷ frames_from c (suc p) n') (frames_from c (suc p) n')) (sym s)
-    ∙ ap (λ (q : ℕ). before (turned p c) ∷ frames_from c q n') (sym e)
+    ∙ ap (λ (b : Bool). cond b (before (turned p c) ∷ frames_from c (suc p) m) (frames_from c (suc p) m)) s
+    ∙ ap (λ (q : ℕ). before (turned p c) ∷ frames_from c q m) (let e : suc p ≡ p + 1 = omega arith in e)

@@ -1,69 +1,72 @@
-use Rattle.std.proofs.Common.{◌≡◌, ℕ, suc, ◌+◌, ◌-◌, ◌*◌, ◌^◌, ◌<◌, ◌≤◌, Bool, false, cond, eqb, List, [], ◌∷◌, ◌++◌, length, get_or, take, drop, set, sym, ap, ◌∙◌, subst, arith, pow-add}
-use Rattle.std.proofs.lemmas.List.{append_assoc, append-nil, drop_more, drop_all, drop-drop, take_more_set, drop-set-lt, take-append-drop, length-take-le, length-append}
-use Rattle.std.proofs.lemmas.Bool.{cond-true, cond-false, cond_both, eq-eqb, ne_eqb}
+-- Packing bits into bytes, byte by byte.
+use Rattle.std.proofs.Common.{◌≡◌, ℕ, suc, ◌+◌, ◌-◌, ◌*◌, ◌^◌, ◌<◌, ◌≤◌, Bool, false, cond, eqb, List, [], ◌∷◌, ◌++◌, length, get_or, take, drop, set, sym, ap, ◌∙◌, inl, inr, arith, pow-add}
+use Rattle.std.proofs.lemmas.List.{append_assoc, append-nil, drop_more, drop_all, drop-drop, take_more_set, drop-set-lt, take-append-drop, length-take-le, get_or_past}
+use Rattle.std.proofs.lemmas.Bool.{cond-true, cond-false, cases_eq, cases_lt, eq-eqb, ne_eqb}
 use Rattle.gcr.specs.Bits.{and_bit}
 use Rattle.track.specs.Fetching.{pack, packed, laid}
 
--- a list being packed: i bits are done, in `at` bytes and `fill` bits that write `code`
-abbrev pub Packing : List Bool → List ℕ → List ℕ → ℕ → ℕ → ℕ → ℕ → Type 0
-Packing a old buf at fill code i =
-    (fill < 8) × (code < 2 ^ fill) × (at * 8 + fill ≡ i) × (pack a ≡ take at buf ++ packed fill code (drop i a)) × (drop at buf ≡ drop at old)
+-- what j bits that write `code`, and bits to come, are packed into; the eighth bit ends the byte
+abbrev pub begun : ℕ → ℕ → List Bool → List ℕ
+begun j code l = cond (eqb j 8) (code ∷ pack l) (packed j code l)
 
-pub step_full : (a : List Bool) (old buf : List ℕ) (at fill code i v : ℕ) (b : Bool) → Packing a old buf at fill code i → i < length a → at < length buf → fill ≡ 7 → b ≡ get_or a i false
-    → v ≡ code * 2 + cond b 1 0 → Packing a old (set buf at v) (at + 1) 0 0 (i + 1)
-step_full a old buf at fill code i v b P h l e f g =
-    let t : packed fill code (drop i a) ≡ and_bit code b ∷ packed 0 0 (drop (i + 1) a) =
-    ap (packed fill code) (drop_more a i false h)
-    ∙ cond-true (eqb fill 7) (and_bit code (get_or a i false) ∷ packed 0 0 (drop (i + 1) a)) (packed (suc fill) (and_bit code (get_or a i false)) (drop (i + 1) a)) (eq-eqb fill 7 e)
-    ∙ ap (λ (x : Bool). and_bit code x ∷ packed 0 0 (drop (i + 1) a)) (sym f) in
-    let n : (at + 1) * 8 + 0 ≡ i + 1 = (let m = P.2 in omega arith) in (
-      omega arith,
-      omega arith,
-      n,
-      P.3 ∙ ap (λ (z : List ℕ). take at buf ++ z) (t ∙ ap (λ (x : ℕ). x ∷ packed 0 0 (drop (i + 1) a)) (sym g))
-          ∙ sym (append_assoc (take at buf) (v ∷ []) (packed 0 0 (drop (i + 1) a)))
-          ∙ ap (λ (z : List ℕ). z ++ packed 0 0 (drop (i + 1) a)) (sym (take_more_set buf at v l)),
-      drop-set-lt (at + 1) buf at v (omega arith) ∙ sym (drop-drop 1 at buf) ∙ ap (drop 1) P.4 ∙ drop-drop 1 at old,
-    )
+begun_bit : (j code : ℕ) (b : Bool) (l : List Bool) → j < 8 → packed j code (b ∷ l) ≡ begun (j + 1) (and_bit code b) l
+begun_bit j code b l h = elim (cases_eq j 7) [
+  | inl e ↦ cond-true (eqb j 7) (and_bit code b ∷ packed 0 0 l) (packed (suc j) (and_bit code b) l) (eq-eqb j 7 e)
+      ∙ sym (cond-true (eqb (j + 1) 8) (and_bit code b ∷ pack l) (packed (j + 1) (and_bit code b) l) (eq-eqb (j + 1) 8 (omega arith)))
+  | inr n ↦ cond-false (eqb j 7) (and_bit code b ∷ packed 0 0 l) (packed (suc j) (and_bit code b) l) (ne_eqb j 7 n)
+      ∙ ap (λ (i : ℕ). packed i (and_bit code b) l) (let z : suc j ≡ j + 1 = omega arith in z)
+      ∙ sym (cond-false (eqb (j + 1) 8) (and_bit code b ∷ pack l) (packed (j + 1) (and_bit code b) l) (ne_eqb (j + 1) 8 (λ e. n (omega arith))))
+]
 
-pub step_more : (a : List Bool) (old buf : List ℕ) (at fill code i v : ℕ) (b : Bool) → Packing a old buf at fill code i → i < length a → (fill ≡ 7 → ⊥) → b ≡ get_or a i false
-    → v ≡ code * 2 + cond b 1 0 → Packing a old buf at (fill + 1) v (i + 1)
-step_more a old buf at fill code i v b P h e f g =
-    let t : packed fill code (drop i a) ≡ packed (fill + 1) v (drop (i + 1) a) =
-    ap (packed fill code) (drop_more a i false h)
-    ∙ cond-false (eqb fill 7) (and_bit code (get_or a i false) ∷ packed 0 0 (drop (i + 1) a)) (packed (suc fill) (and_bit code (get_or a i false)) (drop (i + 1) a)) (ne_eqb fill 7 e)
-    ∙ ap (λ (x : Bool). packed (suc fill) (and_bit code x) (drop (i + 1) a)) (sym f)
-    ∙ ap (λ (x : ℕ). packed (suc fill) x (drop (i + 1) a)) (sym g)
-    ∙ ap (λ (n : ℕ). packed n v (drop (i + 1) a)) (let z : suc fill ≡ fill + 1 = omega arith in z) in
-    let q : cond b 1 0 ≤ 1 = cond_both b 1 0 (λ x. x ≤ 1) (λ _. omega arith) (λ _. omega arith) in
-    let s : fill + 1 < 8 = (let m = P.0 in omega arith) in
-    let w : v < 2 ^ (fill + 1) = (let m = P.1 in let k = pow-add 2 fill 1 in omega arith) in
-    let n : at * 8 + (fill + 1) ≡ i + 1 = (let m = P.2 in omega arith) in
-    (s, w, n, P.3 ∙ ap (λ (z : List ℕ). take at buf ++ z) t, P.4)
+-- zeros fill the last byte
+begun_zero : (j code : ℕ) → 0 < j → j < 8 → packed j code [] ≡ begun (j + 1) (code * 2 + 0) []
+begun_zero j code g h =
+    cond-false (eqb j 0) [] (code * 2 ^ (8 - j) ∷ []) (ne_eqb j 0 (λ e. omega arith))
+    ∙ ap (λ (n : ℕ). n ∷ [])
+    (ap (λ (i : ℕ). code * 2 ^ i) (let z : 8 - j ≡ (7 - j) + 1 = omega arith in z) ∙ ap (λ (n : ℕ). code * n) (pow-add 2 (7 - j) 1)
+    ∙ (let z : code * (2 ^ (7 - j) * 2 ^ 1) ≡ (code * 2 + 0) * 2 ^ (7 - j) = half code (2 ^ (7 - j)) in z))
+    ∙ elim (cases_eq j 7) [
+      | inl e ↦ ap (λ (i : ℕ). (code * 2 + 0) * 2 ^ (7 - i) ∷ []) e
+          ∙ ap (λ (n : ℕ). n ∷ []) (let z : (code * 2 + 0) * 2 ^ (7 - 7) ≡ code * 2 + 0 = omega arith in z)
+          ∙ sym (cond-true (eqb (j + 1) 8) ((code * 2 + 0) ∷ []) (packed (j + 1) (code * 2 + 0) []) (eq-eqb (j + 1) 8 (omega arith)))
+      | inr n ↦ ap (λ (i : ℕ). (code * 2 + 0) * 2 ^ i ∷ []) (let z : 7 - j ≡ 8 - (j + 1) = omega arith in z)
+          ∙ sym (cond-false (eqb (j + 1) 0) [] ((code * 2 + 0) * 2 ^ (8 - (j + 1)) ∷ []) (ne_eqb (j + 1) 0 (λ e. omega arith)))
+          ∙ sym (cond-false (eqb (j + 1) 8) ((code * 2 + 0) ∷ []) (packed (j + 1) (code * 2 + 0) []) (ne_eqb (j + 1) 8 (λ e. n (omega arith))))
+    ]
+  where
+    half : (c m : ℕ) → c * (m * 2 ^ 1) ≡ (c * 2 + 0) * m
+    half c m = grind arith
 
-pub moved : (a : List Bool) (old buf buf' : List ℕ) (at at' fill fill' code code' i : ℕ) → buf' ≡ buf → at' ≡ at → fill' ≡ fill → code' ≡ code → Packing a old buf at fill code i → Packing a old buf' at' fill' code' i
-moved a old buf buf' at at' fill fill' code code' i p q r s P =
-    let P1 : List ℕ → Type 0 = λ z. Packing a old z at fill code i in
-    let P2 : ℕ → Type 0 = λ z. Packing a old buf' z fill code i in
-    let P3 : ℕ → Type 0 = λ z. Packing a old buf' at' z code i in
-    let P4 : ℕ → Type 0 = λ z. Packing a old buf' at' fill' z i in
-    subst P4 (sym s) (subst P3 (sym r) (subst P2 (sym q) (subst P1 (sym p) P)))
+-- one bit more, or a zero past the end
+pub begun_step : (l : List Bool) (j code code' : ℕ) (b : Bool) → 0 < length l → j < 8 → b ≡ get_or l j false → code' ≡ code * 2 + cond b 1 0 → begun j code (drop j l) ≡ begun (j + 1) code' (drop (j + 1) l)
+begun_step l j code code' b n h e f =
+    cond-false (eqb j 8) (code ∷ pack (drop j l)) (packed j code (drop j l)) (ne_eqb j 8 (λ z. omega arith))
+    ∙ elim (cases_lt j (length l)) [
+      | inl g ↦ ap (packed j code) (drop_more l j false g)
+          ∙ begun_bit j code (get_or l j false) (drop (j + 1) l) h
+          ∙ ap (λ (x : Bool). begun (j + 1) (and_bit code x) (drop (j + 1) l)) (sym e)
+      | inr g ↦ ap (packed j code) (drop_all j l g)
+          ∙ begun_zero j code (omega arith) h
+          ∙ ap (begun (j + 1) (code * 2 + 0)) (sym (drop_all (j + 1) l (omega arith)))
+          ∙ ap (λ (x : Bool). begun (j + 1) (code * 2 + cond x 1 0) (drop (j + 1) l)) (sym (e ∙ get_or_past l j false g))
+    ]
+    ∙ ap (λ (v : ℕ). begun (j + 1) v (drop (j + 1) l)) (sym f)
 
-pub done_even : (a : List Bool) (old buf : List ℕ) (at fill code i : ℕ) → Packing a old buf at fill code i → length a ≤ i → at ≤ length buf → fill ≡ 0 → buf ≡ laid (pack a) old
-done_even a old buf at fill code i P h l e =
-    let t : pack a ≡ take at buf =
-    P.3 ∙ ap (λ (z : List Bool). take at buf ++ packed fill code z) (drop_all i a h)
-    ∙ ap (λ (z : List ℕ). take at buf ++ z) (cond-true (eqb fill 0) [] (code * 2 ^ (8 - fill) ∷ []) (eq-eqb fill 0 e)) ∙ append-nil (take at buf) in
-    let n : at ≡ length (pack a) = sym (ap length t ∙ length-take-le at buf l) in
-    sym (take-append-drop at buf) ∙ ap (λ (z : List ℕ). z ++ drop at buf) (sym t) ∙ ap (λ (z : List ℕ). pack a ++ z) (P.4 ∙ ap (λ (k : ℕ). drop k old) n)
+-- a list being packed: n bytes are done
+abbrev pub Packing : List Bool → List ℕ → List ℕ → ℕ → Type 0
+Packing a old buf n = (pack a ≡ take n buf ++ pack (drop (n * 8) a)) × (drop n buf ≡ drop n old)
 
-pub done_odd : (a : List Bool) (old buf : List ℕ) (at fill code i v : ℕ) → Packing a old buf at fill code i → length a ≤ i → at < length buf → (fill ≡ 0 → ⊥) → v ≡ code * 2 ^ (8 - fill)
-    → set buf at v ≡ laid (pack a) old
-done_odd a old buf at fill code i v P h l e g =
-    let t : pack a ≡ take at buf ++ v ∷ [] =
-    P.3 ∙ ap (λ (z : List Bool). take at buf ++ packed fill code z) (drop_all i a h)
-    ∙ ap (λ (z : List ℕ). take at buf ++ z) (cond-false (eqb fill 0) [] (code * 2 ^ (8 - fill) ∷ []) (ne_eqb fill 0 e)) ∙ ap (λ (x : ℕ). take at buf ++ x ∷ []) (sym g) in
-    let n : length (pack a) ≡ at + 1 = ap length t ∙ length-append (take at buf) (v ∷ []) ∙ (let k = length-take-le at buf (omega arith) in omega arith) in
-    sym (take-append-drop (at + 1) (set buf at v))
-    ∙ ap (λ (z : List ℕ). z ++ drop (at + 1) (set buf at v)) (take_more_set buf at v l ∙ sym t)
-    ∙ ap (λ (z : List ℕ). pack a ++ z) (drop-set-lt (at + 1) buf at v (omega arith) ∙ sym (drop-drop 1 at buf) ∙ ap (drop 1) P.4 ∙ drop-drop 1 at old ∙ ap (λ (k : ℕ). drop k old) (sym n))
+pub packing_step : (a : List Bool) (old buf : List ℕ) (n v : ℕ) → Packing a old buf n → n < length buf → pack (drop (n * 8) a) ≡ v ∷ pack (drop (n * 8 + 8) a) → Packing a old (set buf n v) (n + 1)
+packing_step a old buf n v P h e = (
+  P.0 ∙ ap (λ (z : List ℕ). take n buf ++ z) e
+      ∙ sym (append_assoc (take n buf) (v ∷ []) (pack (drop (n * 8 + 8) a)))
+      ∙ ap (λ (z : List ℕ). z ++ pack (drop (n * 8 + 8) a)) (sym (take_more_set buf n v h))
+      ∙ ap (λ (i : ℕ). take (n + 1) (set buf n v) ++ pack (drop i a)) (let z : n * 8 + 8 ≡ (n + 1) * 8 = omega arith in z),
+  drop-set-lt (n + 1) buf n v (omega arith) ∙ sym (drop-drop 1 n buf) ∙ ap (drop 1) P.1 ∙ drop-drop 1 n old,
+)
+
+pub packing_done : (a : List Bool) (old buf : List ℕ) (n : ℕ) → Packing a old buf n → length a ≤ n * 8 → n ≤ length buf → buf ≡ laid (pack a) old
+packing_done a old buf n P h l =
+    let t : pack a ≡ take n buf = P.0 ∙ ap (λ (z : List Bool). take n buf ++ pack z) (drop_all (n * 8) a h) ∙ append-nil (take n buf) in
+    let m : n ≡ length (pack a) = sym (ap length t ∙ length-take-le n buf l) in
+    sym (take-append-drop n buf) ∙ ap (λ (z : List ℕ). z ++ drop n buf) (sym t) ∙ ap (λ (z : List ℕ). pack a ++ z) (P.1 ∙ ap (λ (k : ℕ). drop k old) m)

@@ -1,55 +1,61 @@
-use Rattle.std.proofs.Common.{◌≡◌, ℕ, Bool, true, false, cond, ◌||◌, List, [], ◌∷◌, sym, refl, ap, ◌∙◌}
+-- A search for a block, frame by frame.
+use Rattle.std.proofs.Common.{◌≡◌, ℕ, Bool, true, false, cond, ◌||◌, List, [], ◌∷◌, ◌++◌, Some, None, Option, sym, refl, ap, ◌∙◌}
+use Rattle.std.proofs.lemmas.Bool.{true≢false, false≢true}
+use Rattle.std.specs.Option.{is_some, option_map}
 use Rattle.track.specs.Headers.{header, sound_head, unsound_head}
-use Rattle.track.specs.Reading.{any, head_or, linked, from_hits, hits, sought, Sought, at, missing}
-use Rattle.disk.specs.declared.cause.Cause.TheVariants.{BadHeader, NoHeader, TwoHeaders}
+use Rattle.track.specs.Reading.{any, head_or, linked, from_hits, hits, sought, Sought, missing}
+use Rattle.disk.specs.declared.cause.Cause.TheVariants.{TwoHeaders}
 
--- the search, frame by frame: whether one was found, whether its successor is awaited, the successor, and whether an unsound one was met
-abbrev pub scan : ℕ → ℕ → List Bool → Bool → Bool → List Bool → Bool → List (List Bool) → Sought
-scan t s first found waits d u [] = cond found (at (cond waits first d)) (missing (cond u BadHeader NoHeader))
-scan t s first found waits d u (f ∷ fs) =
-    cond (sound_head t s (header f))
-    (cond found (missing TwoHeaders) (scan t s first true true (cond waits f d) u fs))
-    (scan t s first found false (cond waits f d) (u || unsound_head t s (header f)) fs)
+-- the data frame that was found, as a hit; which header it follows does not matter
+abbrev pub met : Option (List Bool) → List (List Bool × List Bool)
+met None = []
+met (Some d) = ([], d) ∷ []
 
-or_false : (u : Bool) → (u || false) ≡ u
-or_false true = refl
-or_false false = refl
+-- what is sought, by what was found, and the frames to come
+abbrev pub seeking : ℕ → ℕ → List Bool → Option (List Bool) → Bool → List (List Bool) → Sought
+seeking t s first o u fs = from_hits (met o ++ hits t s (linked first fs)) (u || any (λ g. unsound_head t s (header g)) fs)
 
-or_assoc : (u v w : Bool) → ((u || v) || w) ≡ (u || (v || w))
+pub seek_start : (t s : ℕ) (f : List Bool) (fs gs : List (List Bool)) → gs ≡ f ∷ fs → sought gs t s ≡ seeking t s f None false gs
+seek_start t s f fs gs e =
+    ap (λ (l : List (List Bool)). sought l t s) e ∙ ap (seeking t s f None false) (sym e)
+
+or_assoc : (u v w : Bool) → (u || (v || w)) ≡ ((u || v) || w)
 or_assoc true v w = refl
 or_assoc false v w = refl
 
-module _ (t s : ℕ) (first : List Bool) where
-  -- one was found, and its successor d is known
-  scan_known : (g d : List Bool) (u v : Bool) (fs : List (List Bool)) → scan t s first true false d u fs ≡ from_hits ((g, d) ∷ hits t s (linked first fs)) v
-  scan_known g d u v [] = refl
-  scan_known g d u v (f ∷ fs) =
-      elim (sound_head t s (header f)) as (λ b. cond b (missing TwoHeaders) (scan t s first true false d (u || unsound_head t s (header f)) fs)
-      ≡ from_hits ((g, d) ∷ cond b ((f, head_or first fs) ∷ hits t s (linked first fs)) (hits t s (linked first fs))) v)
-      [ true ↦ refl | false ↦ scan_known g d (u || unsound_head t s (header f)) v fs ]
+one_hit : (x d : List Bool) (l : List (List Bool × List Bool)) (u v : Bool) → from_hits ((x, d) ∷ l) u ≡ from_hits (([], d) ∷ l) v
+one_hit x d [] u v = refl
+one_hit x d (p ∷ l) u v = refl
 
-  -- one was found just before
-  scan_waits : (g d : List Bool) (u v : Bool) (fs : List (List Bool)) → scan t s first true true d u fs ≡ from_hits ((g, head_or first fs) ∷ hits t s (linked first fs)) v
-  scan_waits g d u v [] = refl
-  scan_waits g d u v (f ∷ fs) =
-      elim (sound_head t s (header f)) as (λ b. cond b (missing TwoHeaders) (scan t s first true false f (u || unsound_head t s (header f)) fs)
-      ≡ from_hits ((g, f) ∷ cond b ((f, head_or first fs) ∷ hits t s (linked first fs)) (hits t s (linked first fs))) v)
-      [ true ↦ refl | false ↦ scan_known g f (u || unsound_head t s (header f)) v fs ]
+module _ (t s : ℕ) (first x : List Bool) (gs fs : List (List Bool)) (e : gs ≡ x ∷ fs) where
+  -- a frame that is no sound header of the block
+  pub seek_miss : (o : Option (List Bool)) (u v : Bool) → sound_head t s (header x) ≡ false → (u || unsound_head t s (header x)) ≡ v → seeking t s first o u gs ≡ seeking t s first o v fs
+  seek_miss o u v h g =
+      ap (seeking t s first o u) e
+      ∙ ap (λ (b : Bool). from_hits (met o ++ cond b ((x, head_or first fs) ∷ hits t s (linked first fs)) (hits t s (linked first fs))) (u || (unsound_head t s (header x) || any (λ g. unsound_head t s (header g)) fs))) h
+      ∙ ap (from_hits (met o ++ hits t s (linked first fs))) (or_assoc u (unsound_head t s (header x)) (any (λ g. unsound_head t s (header g)) fs) ∙ ap (λ (b : Bool). b || any (λ g. unsound_head t s (header g)) fs) g)
 
-  scan_none : (d : List Bool) (u : Bool) (fs : List (List Bool))
-      → scan t s first false false d u fs ≡ from_hits (hits t s (linked first fs)) (u || any (λ g. unsound_head t s (header g)) fs)
-  scan_none d u [] = ap (λ (b : Bool). missing (cond b BadHeader NoHeader)) (sym (or_false u))
-  scan_none d u (f ∷ fs) =
-      elim (sound_head t s (header f)) as (λ b. cond b (scan t s first true true d u fs) (scan t s first false false d (u || unsound_head t s (header f)) fs)
-      ≡ from_hits (cond b ((f, head_or first fs) ∷ hits t s (linked first fs)) (hits t s (linked first fs))) (u || (unsound_head t s (header f) || any (λ g. unsound_head t s (header g)) fs))) [
-        | true ↦ scan_waits f d u (u || (unsound_head t s (header f) || any (λ g. unsound_head t s (header g)) fs)) fs
-        | false ↦ scan_none d (u || unsound_head t s (header f)) fs
-            ∙ ap (from_hits (hits t s (linked first fs))) (or_assoc u (unsound_head t s (header f)) (any (λ g. unsound_head t s (header g)) fs))
-      ]
+  -- the first sound header
+  seek_hit : (u : Bool) → sound_head t s (header x) ≡ true → seeking t s first None u gs ≡ seeking t s first (Some (head_or first fs)) u fs
+  seek_hit u h =
+      ap (seeking t s first None u) e
+      ∙ ap (λ (b : Bool). from_hits (cond b ((x, head_or first fs) ∷ hits t s (linked first fs)) (hits t s (linked first fs))) (u || (unsound_head t s (header x) || any (λ g. unsound_head t s (header g)) fs))) h
+      ∙ one_hit x (head_or first fs) (hits t s (linked first fs)) _ _
 
-pub scan_sought : (t s : ℕ) (f : List Bool) (fs : List (List Bool)) → scan t s f false false f false (f ∷ fs) ≡ sought (f ∷ fs) t s
-scan_sought t s f fs = scan_none t s f f false (f ∷ fs)
+  pub seek_first : (o : Option (List Bool)) (u : Bool) → sound_head t s (header x) ≡ true → false ≡ is_some o → seeking t s first o u gs ≡ seeking t s first (Some (head_or first fs)) u fs
+  seek_first None u h f = seek_hit u h
+  seek_first (Some d) u h f = absurd (false≢true f)
 
-pub scan_start : (t s : ℕ) (f : List Bool) (fs gs hs : List (List Bool)) → gs ≡ f ∷ fs → hs ≡ f ∷ fs → scan t s f false false f false gs ≡ sought hs t s
-scan_start t s f fs gs hs e g =
-    ap (scan t s f false false f false) e ∙ scan_sought t s f fs ∙ ap (λ (l : List (List Bool)). sought l t s) (sym g)
+  -- the second
+  seek_two : (d : List Bool) (u : Bool) → sound_head t s (header x) ≡ true → seeking t s first (Some d) u gs ≡ missing TwoHeaders
+  seek_two d u h =
+      ap (seeking t s first (Some d) u) e
+      ∙ ap (λ (b : Bool). from_hits (([], d) ∷ cond b ((x, head_or first fs) ∷ hits t s (linked first fs)) (hits t s (linked first fs))) (u || (unsound_head t s (header x) || any (λ g. unsound_head t s (header g)) fs))) h
+
+  pub seek_some : (o : Option (List Bool)) (u : Bool) → sound_head t s (header x) ≡ true → true ≡ is_some o → seeking t s first o u gs ≡ missing TwoHeaders
+  seek_some None u h f = absurd (true≢false f)
+  seek_some (Some d) u h f = seek_two d u h
+
+pub mapped : {X Y : Type 0} (f : X → Y) (o : Option X) → is_some o ≡ is_some (option_map f o)
+mapped f None = refl
+mapped f (Some x) = refl

@@ -146,17 +146,3 @@ turning k c h =
       (length A, l, e ∙ sym (turned_swap A B) ∙ ap (turned (length A)) (sym f)),
       λ t s. ap sought_data (sought_turned k c h t s),
     )
-
--- the frames that begin before p, one place on
-pub passed_skip : (c : List Bool) (p : ℕ) → false ≡ start (turned p c) → frames_from c 0 (p + 1) ≡ frames_from c 0 p
-passed_skip c p s =
-    frames_append c 0 p 1
-    ∙ ap (λ (q : ℕ). frames_from c 0 p ++ frames_from c q 1) (zero-add p)
-    ∙ ap (λ (b : Bool). frames_from c 0 p ++ cond b (before (turned p c) ∷ []) []) (sym s)
-    ∙ append-nil (frames_from c 0 p)
-
-pub passed_take : (c : List Bool) (p : ℕ) → true ≡ start (turned p c) → frames_from c 0 (p + 1) ≡ frames_from c 0 p ++ before (turned p c) ∷ []
-passed_take c p s =
-    frames_append c 0 p 1
-    ∙ ap (λ (q : ℕ). frames_from c 0 p ++ frames_from c q 1) (zero-add p)
-    ∙ ap (λ (b : Bool). frames_from c 0 p ++ cond b (before (turned p c) ∷ []) []) (sym s)

@@ -3,9 +3,10 @@
 
 pub mod align;
 pub mod block;
+pub mod circle;
+mod frames;
 pub mod laws;
 pub mod medium;
-mod reads;
 pub mod room;
 pub mod source;
 mod window;

@@ -1,22 +1,74 @@
-// Frames as windows on the bytes of a track.
-ghost use Rattle.std.specs.Prelude.{ℕ, ◌*◌, ◌<◌, ◌≤◌, length};
+// Frames as windows on a circle.
+ghost use Rattle.std.specs.Prelude.{ℕ, ◌<◌, ◌≤◌};
 
-// A frame: `count` bits from bit `first` on, of the circle of `bits` bits that the track's bytes hold. It may run over the end.
+use crate::circle::Circle;
+use disk::place::*;
+use gcr::byte::*;
+
+// A frame: `count` bits from bit `first` of the circle on. It may run over the end.
 #[derive(Clone, Copy)]
 pub(crate) struct Window<'a> {
-    pub track: &'a [u8],
-    pub bits: usize,
+    pub circle: Circle<'a>,
     pub first: usize,
     pub count: usize,
+    ghost placed: { first < circle.bits },
+    ghost within: { count ≤ circle.bits },
 }
 
-// The frames of a track that begin at bit `at` or later.
-#[derive(Drop)]
-pub(crate) struct Frames<'a> {
-    pub track: &'a [u8],
-    pub bits: usize,
-    pub at: usize,
-    ghost held: { bits ≤ length track.now * 8 },
-    ghost small: { bits ≤ 65536 },
-    ghost placed: { at ≤ bits },
+// What a frame says as a header: the block that it names, and whether its checksum is right.
+#[derive(Clone, Copy, Debug, PartialEq, Eq)]
+pub(crate) enum Header {
+    Sound(Place),
+    Unsound(Place),
+}
+
+impl<'a> Window<'a> {
+    ghost use Rattle.std.specs.Prelude.{◌≡◌, false, slice_index_or};
+    ghost use Rattle.std.specs.Option.{option_map};
+    ghost use Rattle.track.specs.Headers.{byte_at, header};
+    ghost use Rattle.track.specs.Shown.{shown, said};
+
+    // Bit `i` of the frame.
+    pub(crate) fn bit(&self, i: usize) -> bool
+        requires { i < self.now.count }
+        ensures { result ≡ slice_index_or (shown self.now) i false }
+    {
+        self.circle.bit(self.first, i)
+    }
+
+    // Coded byte `k` of the frame.
+    pub(crate) fn byte(&self, k: u16) -> Option<u8>
+        ensures { result ≡ byte_at (shown self.now) k }
+    {
+        let from = k as usize * 10;
+        if self.count < from + 10 {
+            return None;
+        }
+        let mut code = 0;
+        for j in 0..10 {
+            code = code * 2 + self.bit(from + j) as u16;
+        }
+        decode(code)
+    }
+
+    // What the frame says as a header.
+    pub(crate) fn header(&self) -> Option<Header>
+        ensures { option_map said result ≡ header (shown self.now) }
+    {
+        let mark = self.byte(0)?;
+        let sum = self.byte(1)?;
+        let sector = self.byte(2)?;
+        let track = self.byte(3)?;
+        let id2 = self.byte(4)?;
+        let id1 = self.byte(5)?;
+        if mark != 8 {
+            return None;
+        }
+        let place = (track, sector);
+        Some(if sum == sector ^ track ^ id2 ^ id1 {
+            Header::Sound(place)
+        } else {
+            Header::Unsound(place)
+        })
+    }
 }

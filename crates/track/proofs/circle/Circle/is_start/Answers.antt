@@ -1,0 +1,10 @@
+use Rattle.std.proofs.Common.{◌∙◌, arith}
+use Rattle.track.specs.Circles.{turned}
+use Rattle.track.specs.Shown.{circle_bits}
+use Rattle.track.proofs.Circles.{len, start_is}
+use Rattle.track.proofs.circle.Circle.is_start.Goals as goal
+
+pub returns-then-not-bit : goal.returns-then-not-bit
+returns-then-not-bit c =
+    let n = len c.args.at c.args.self.now in
+    c.ten_ones.ensures ∙ start_is (turned c.args.at (circle_bits c.args.self.now)) _ c.if-not-bit.ensures (omega arith)
