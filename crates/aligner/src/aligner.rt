@@ -7,7 +7,7 @@ ghost use Rattle.aligner.specs.Turning.{unturned, turned_bounded};
 
 use disk::cause::*;
 use disk::refusal::*;
-use track::align::*;
+use track::circle::*;
 use track::medium::*;
 use track::source::*;
 
@@ -26,7 +26,7 @@ fn start_of<S: TrackSource>(source: &S, track: u8) -> u16
     let Ok(bits) = source.fetch(track, &mut plain) else {
         return 0;
     };
-    first_start(&plain, bits) as u16
+    Circle::new(&plain, bits).first_start() as u16
 }
 
 impl<S: TrackSource> Aligner<S> {
@@ -61,7 +61,7 @@ impl<S: TrackSource> TrackSource for Aligner<S> {
             return Err(Refusal::by_caller(Cause::ShortBuffer));
         }
         let first = self.starts[track as usize] as usize;
-        pack_turned(&plain, bits, first, buffer);
+        Circle::new(&plain, bits).pack_turned(first, buffer);
         Ok(bits)
     }
 }

@@ -1,7 +1,8 @@
 -- Reading what was fetched is reading the circle.
-use Rattle.std.proofs.Common.{◌≡◌, ℕ, ◌≤◌, min, Bool, true, List, length, Ok, Err, Result, sym, refl, ap, ◌∙◌, arith}
+use Rattle.std.proofs.Common.{◌≡◌, ℕ, ◌≤◌, min, Bool, true, List, length, Ok, Err, Result, MatchResult, sym, refl, ap, ◌∙◌, arith}
 use Rattle.std.proofs.lemmas.Bool.{true≢false}
 use Rattle.std.proofs.lemmas.Bool.Decides.{nat_tests}
+use Rattle.std.specs.Result.{IsErrAnd}
 use Rattle.disk.specs.declared.cause.Cause.{Cause}
 use Rattle.disk.specs.declared.refusal.Refusal.{Refusal}
 use Rattle.disk.specs.Geometry.{Place, legal}
@@ -23,9 +24,21 @@ fetched c p n old new h l w e f =
     fetched_circle c p.0 n old new d (omega arith) w (fetched_bits c p.0 n (length old) d (omega arith) e) f
 
 -- the refusal of a block by its cause
-abbrev pub placed : Result Unit Cause → Place → Result Unit Refusal
-placed (Ok u) p = Ok tt
+abbrev pub placed : {T : Type 0} → Result T Cause → Place → Result T Refusal
+placed (Ok x) p = Ok x
 placed (Err c) p = Err (fault_at c p)
+
+-- what `map_err` answers, where its closure makes the fault of the block
+pub mapped : {T : Type 0} (p : Place) (P : Cause → Refusal → Type 0) (r : Result T Cause) (m : Result T Refusal)
+    → ((c : Cause) (f : Refusal) → P c f → f ≡ fault_at c p) → MatchResult r (λ x. m ≡ Ok x) (λ c. IsErrAnd m (P c)) → m ≡ placed r p
+mapped p P (Ok x) m k e = e
+mapped p P (Err c) (Ok x) k h = absurd h
+mapped p P (Err c) (Err f) k h = ap Err (k c f h)
+
+pub placed_as : {T : Type 0} (p : Place) (A B : T → Type 0) (F : Cause → Type 0) (G : Refusal → Type 0) (r : Result T Cause)
+    → ((x : T) → A x → B x) → ((c : Cause) → F c → G (fault_at c p)) → MatchResult r A F → MatchResult (placed r p) B G
+placed_as p A B F G (Ok x) k l h = k x h
+placed_as p A B F G (Err c) k l h = l c h
 
 placed_is : (r : Result (List ℕ) Cause) (p : Place) → placed (reading_result r) p ≡ answered (reading p (reading_of r))
 placed_is (Ok b) p = refl

@@ -7,7 +7,7 @@ use disk::cause::*;
 use disk::place::*;
 use disk::refusal::*;
 use sector::source::*;
-use track::block::*;
+use track::circle::*;
 use track::source::*;
 
 #[derive(Drop)]
@@ -42,9 +42,8 @@ impl<S: TrackSource> SectorSource for Decoder<S> {
         }
         let mut buffer = [0; 8192];
         let bits = self.source.fetch(place.0, &mut buffer)?;
-        match read_block(&buffer, bits, place, block) {
-            Ok(()) => Ok(()),
-            Err(cause) => Err(fault_at(cause, place)),
-        }
+        Circle::new(&buffer, bits)
+            .read_block(place, block)
+            .map_err(|cause| fault_at(cause, place))
     }
 }

@@ -14,6 +14,7 @@ use disk::place::*;
 use disk::refusal::*;
 use sector::device::*;
 use sector::source::*;
+use track::circle::*;
 use track::medium::*;
 use track::room::*;
 use track::source::*;
@@ -30,10 +31,9 @@ fn find_room<M: TrackMedium>(medium: &M, place: Place) -> Result<usize, Refusal>
     }
     let mut buffer = [0; 8192];
     let bits = medium.fetch(place.0, &mut buffer)?;
-    match data_start(&buffer, bits, place) {
-        Ok(start) => Ok(start),
-        Err(cause) => Err(fault_at(cause, place)),
-    }
+    Circle::new(&buffer, bits)
+        .data_start(place)
+        .map_err(|cause| fault_at(cause, place))
 }
 
 impl<M: TrackMedium> SectorDevice for Decoder<M> {

@@ -17,4 +17,4 @@ returns g c =
     let d = fetched_on s t c.in-Ok.bits (length z) m c.in-Ok.ensures.answer in
     let n = fetched_bits s t c.in-Ok.bits (length z) d m c.in-Ok.ensures.answer in
     let e = fetched_circle s t c.in-Ok.bits z c.fetch.new.buffer d m b n c.in-Ok.ensures.buffer in
-    c.first_start.ensures.place ∙ ap first_start e ∙ sym (cond-true (on_disk t) (first_start (s t)) 0 d)
+    c.first_start.ensures.place ∙ ap first_start (c.new.ensures ∙ e) ∙ sym (cond-true (on_disk t) (first_start (s t)) 0 d)

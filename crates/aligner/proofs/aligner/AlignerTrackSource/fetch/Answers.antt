@@ -24,5 +24,5 @@ returns g c =
     let e = fetched_circle s t c.in_ok-bits.bits z c.fetch.new.buffer d m b n c.in_ok-bits.ensures.buffer in
     record {
       answer = answered C t c.in_ok-bits.bits (length old) d c.if-buffer-lt8192.false (n ∙ sym (length_turned k (s t)));
-      buffer = c.pack_turned.ensures ∙ ap (λ (x : List Bool). pack_buffer (turned k x) old) e ∙ sym (cond-true (on_disk t) (pack_buffer (C t) old) old d);
+      buffer = c.pack_turned.ensures ∙ ap (λ (x : List Bool). pack_buffer (turned k x) old) (c.new.ensures ∙ e) ∙ sym (cond-true (on_disk t) (pack_buffer (C t) old) old d);
     }
