@@ -6,7 +6,7 @@ use Rattle.track.specs.Headers.{byte_at}
 use Rattle.track.specs.Reading.{summed, data_of, is_data}
 use Rattle.gcr.specs.Codes.{bytes_in, if_some}
 use Rattle.gcr.specs.Sums.{xor_all}
-use Rattle.disk.specs.declared.cause.Cause.TheVariants.{BadChecksum, NoData, ShortFrame}
+use Rattle.disk.specs.declared.cause.Cause.TheVariants.{BadChecksum, BadCode, NoData, ShortFrame}
 
 abbrev pub prefixed : List ℕ → Option (List ℕ) → Option (List ℕ)
 prefixed xs None = None
@@ -37,9 +37,6 @@ bytes_none f n m i e h =
 -- the bytes so far, and those to come
 abbrev pub Left : List Bool → ℕ → List ℕ → Type 0
 Left f k xs = bytes_in 257 (drop 10 f) ≡ prefixed (take k xs) (bytes_in (257 - k) (drop ((k + 1) * 10) f))
-
-pub left_start : (f : List Bool) (xs : List ℕ) → Left f 0 xs
-left_start f xs = prefixed_none (bytes_in 257 (drop 10 f))
 
 pub left_step : (f : List Bool) (k b : ℕ) (xs : List ℕ) → k < 256 → length xs ≡ 256 → Some b ≡ byte_at f (k + 1) → Left f k xs → Left f (k + 1) (set xs k b)
 left_step f k b xs h n e v =
@@ -74,3 +71,12 @@ data_long f o e h v =
     ap (λ (p : Option ℕ). cond (is_data p) (cond (ltb (length f) 2600) (Err ShortFrame) (summed (bytes_in 257 (drop 10 f)))) (Err NoData)) (sym e)
     ∙ cond-false (ltb (length f) 2600) (Err ShortFrame) (summed (bytes_in 257 (drop 10 f))) (le-ltb (length f) 2600 h)
     ∙ ap summed v
+
+-- a code among the 257 bytes stands for none
+pub data_bad : (f : List Bool) (k : ℕ) (xs : List ℕ) → Some 7 ≡ byte_at f 0 → 2600 ≤ length f → k < 257 → None ≡ byte_at f (k + 1) → Left f k xs → data_of f ≡ Err BadCode
+data_bad f k xs m l h e v = data_long f None m l (left_fails f k xs h e v)
+
+-- all 257 stand for bytes
+pub data_read : (f : List Bool) (k s : ℕ) (xs : List ℕ) → Some 7 ≡ byte_at f 0 → 2600 ≤ length f → k ≡ 256 → length xs ≡ 256 → Some s ≡ byte_at f 257 → Left f k xs
+    → data_of f ≡ cond (eqb (xor_all xs) s) (Ok xs) (Err BadChecksum)
+data_read f k s xs m l g n e v = data_long f (Some (xs ++ s ∷ [])) m l (left_done f k s xs g n e v) ∙ summed_is xs s n

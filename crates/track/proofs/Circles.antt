@@ -8,7 +8,6 @@ use Rattle.std.proofs.lemmas.List.Sums.{fold_more}
 use Rattle.gcr.specs.Bits.{bits_of, value, and_bit}
 use Rattle.gcr.specs.Codes.{byte_of, coded}
 use Rattle.gcr.proofs.Bits.{length_bits_of}
-use Rattle.track.specs.Headers.{byte_at, head_of, header}
 use Rattle.track.specs.Shown.{circle_bits, shown}
 use Rattle.track.specs.declared.circle.Circle.{Circle}
 use Rattle.track.specs.declared.window.Window.{Window}
@@ -105,16 +104,6 @@ pub length_shown : (w : Window) → length (shown w) ≡ w.count
 length_shown w =
     length-take-le w.count (turned w.first (circle_bits w.circle))
     (let e = len w.first w.circle in let h = w.within in omega arith)
-
-pub head_is : (f : List Bool) (o0 o1 o2 o3 o4 o5 : Option ℕ) → o0 ≡ byte_at f 0 → o1 ≡ byte_at f 1 → o2 ≡ byte_at f 2 → o3 ≡ byte_at f 3 → o4 ≡ byte_at f 4 → o5 ≡ byte_at f 5
-    → head_of o0 o1 o2 o3 o4 o5 ≡ header f
-head_is f o0 o1 o2 o3 o4 o5 e0 e1 e2 e3 e4 e5 =
-    ap (λ (o : Option ℕ). head_of o o1 o2 o3 o4 o5) e0
-    ∙ ap (λ (o : Option ℕ). head_of (byte_at f 0) o o2 o3 o4 o5) e1
-    ∙ ap (λ (o : Option ℕ). head_of (byte_at f 0) (byte_at f 1) o o3 o4 o5) e2
-    ∙ ap (λ (o : Option ℕ). head_of (byte_at f 0) (byte_at f 1) (byte_at f 2) o o4 o5) e3
-    ∙ ap (λ (o : Option ℕ). head_of (byte_at f 0) (byte_at f 1) (byte_at f 2) (byte_at f 3) o o5) e4
-    ∙ ap (λ (o : Option ℕ). head_of (byte_at f 0) (byte_at f 1) (byte_at f 2) (byte_at f 3) (byte_at f 4) o) e5
 
 -- the place at which the first of the frames among n places begins, or that none does
 abbrev pub Found : List Bool → ℕ → ℕ → Option ℕ → Type 0

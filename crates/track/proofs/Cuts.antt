@@ -1,5 +1,6 @@
 use Rattle.std.proofs.Common.{◌≡◌, ℕ, zero, suc, ◌+◌, ◌-◌, ◌<◌, ◌≤◌, Bool, true, false, cond, not, ◌&&◌, ◌⊎◌, List, [], ◌∷◌, ◌++◌, length, get_or, take, drop, replicate, sym, refl, ap, ◌∙◌, subst, inl, inr, ⊎_elim, arith}
 use Rattle.std.proofs.lemmas.List.{append_assoc, append-nil, drop_at, get_or_at, get_or-drop, length-append, length_push, length-replicate, replicate_more, length-drop, take-append-drop}
+use Rattle.std.proofs.Math.Bool.{and-false}
 use Rattle.std.proofs.lemmas.Bool.{cases_lt, cases_Bool, true≢false, false≢true}
 use Rattle.track.specs.Circles.{ones, start, before, frames_from, frames, tens, push, cut}
 use Rattle.track.specs.Reading.{head_or}
@@ -65,11 +66,7 @@ pub ones_false : (n i : ℕ) (a : List Bool) → i < n → get_or a i false ≡ 
 ones_false zero i a h e = absurd (let z : ⊥ = omega arith in z)
 ones_false (suc n) i [] h e = refl
 ones_false (suc n) zero (b ∷ l) h e = ap (λ (c : Bool). c && ones n l) e
-ones_false (suc n) (suc i) (b ∷ l) h e = ap (λ (c : Bool). b && c) (ones_false n i l (omega arith) e) ∙ last b
-  where
-    last : (b : Bool) → (b && false) ≡ false
-    last true = refl
-    last false = refl
+ones_false (suc n) (suc i) (b ∷ l) h e = ap (λ (c : Bool). b && c) (ones_false n i l (omega arith) e) ∙ and-false b
 
 -- behind ten ones a zero begins a frame
 start_after : (z : List Bool) → start (false ∷ (z ++ tens)) ≡ true

@@ -1,26 +1,13 @@
 -- Fetching a track: what is answered, and what then stands in the buffer.
-use Rattle.std.proofs.Common.{◌≡◌, ℕ, ◌<◌, ◌≤◌, min, Bool, true, false, cond, ltb, leb, List, length, Ok, Err, Result, sym, refl, ap, ◌∙◌, arith}
-use Rattle.std.proofs.lemmas.List.{nil_from_length}
-use Rattle.std.proofs.lemmas.Bool.{cond-true, cond-false, lt-ltb, le-ltb, le-leb, and_from}
+use Rattle.std.proofs.Common.{◌≡◌, ℕ, ◌≤◌, min, Bool, true, false, cond, ltb, leb, List, length, Ok, Err, Result, sym, refl, ap, ◌∙◌, arith}
+use Rattle.std.proofs.lemmas.Bool.{cond-true, cond-false, le-ltb, le-leb, and_from}
 use Rattle.disk.specs.declared.cause.Cause.TheVariants.{NoSuchBlock, ShortBuffer}
 use Rattle.disk.specs.declared.layer.Layer.TheVariants.{Track}
 use Rattle.disk.specs.declared.refusal.Refusal.{Refusal}
 use Rattle.disk.specs.Refusals.{refusal, by_caller}
-use Rattle.track.specs.Circles.{circle_of, turned}
+use Rattle.track.specs.Circles.{circle_of}
 use Rattle.track.specs.Fetching.{pack, laid, on_disk, fetch_result, fetch_buffer}
-use Rattle.track.specs.Aligning.{pack_buffer}
-use Rattle.track.proofs.Circles.{length_turned}
 use Rattle.track.proofs.Packs.{unpacked}
-
-pub buffer_short : (c : List Bool) (old : List ℕ) → length old < 8192 → old ≡ pack_buffer c old
-buffer_short c old h = sym (cond-true (ltb (length old) 8192) old (laid (pack c) old) (lt-ltb (length old) 8192 h))
-
-pub buffer_long : (c : List Bool) (old new : List ℕ) → 8192 ≤ length old → new ≡ laid (pack c) old → new ≡ pack_buffer c old
-buffer_long c old new h e = e ∙ sym (cond-false (ltb (length old) 8192) old (laid (pack c) old) (le-ltb (length old) 8192 h))
-
--- no bits are written of an empty circle
-pub no_bits : (c : List Bool) (k : ℕ) (old : List ℕ) → length c ≤ 0 → old ≡ laid (pack (turned k c)) old
-no_bits c k old h = ap (λ (l : List Bool). laid (pack l) old) (sym (nil_from_length (turned k c) (length_turned k c ∙ (let z : length c ≡ 0 = omega arith in z))))
 
 pub is_on_disk : (t : ℕ) → 1 ≤ t → t ≤ 35 → on_disk t ≡ true
 is_on_disk t h g = and_from (leb 1 t) (leb t 35) (le-leb 1 t h) (le-leb t 35 g)

@@ -1,19 +1,20 @@
 -- Headers that name a block, and the place of its data.
-use Rattle.std.proofs.Common.{◌≡◌, ℕ, ◌-◌, ◌<◌, ◌≤◌, Bool, true, false, cond, not, List, [], ◌∷◌, ◌++◌, length, Some, None, Option, Result, sym, refl, ap, ◌∙◌, subst, arith}
+use Rattle.std.proofs.Common.{◌≡◌, ℕ, ◌-◌, ◌<◌, ◌≤◌, Bool, true, false, cond, not, ◌&&◌, ◌||◌, List, [], ◌∷◌, ◌++◌, length, Some, None, Option, Result, sym, refl, ap, ◌∙◌, subst, arith}
 use Rattle.std.proofs.lemmas.Bool.{and_from, and_right, false≢true}
 use Rattle.track.specs.Circles.{turned, start, frames_from, frames}
 use Rattle.track.specs.Headers.{header, place_is, sound_head, unsound_head, byte_at}
-use Rattle.track.specs.Reading.{head_or, Sought, at, missing}
-use Rattle.track.proofs.Seeks.{seeking}
+use Rattle.track.specs.Reading.{head_or, sought, at, missing}
+use Rattle.track.proofs.Seeks.{seeking, seek_miss, seek_first, seek_some, kept}
 use Rattle.disk.specs.declared.cause.Cause.{Cause}
-use Rattle.disk.specs.declared.cause.Cause.TheVariants.{BadHeader, NoHeader}
-use Rattle.track.specs.Shown.{shown, rest, whole, passed, Next, GivesNext}
+use Rattle.disk.specs.declared.cause.Cause.TheVariants.{BadHeader, NoHeader, TwoHeaders}
+use Rattle.track.specs.declared.window.Header.{Header}
+use Rattle.track.specs.Shown.{shown, said, rest, whole, passed, Next, GivesNext}
 use Rattle.track.specs.declared.window.Window.{Window}
 use Rattle.track.specs.declared.frames.Frames.{Frames}
 use Rattle.track.proofs.Circles.{length_bits}
-use Rattle.std.specs.Option.{unwrap_or, option_map, ok_or, IfSome}
+use Rattle.std.specs.Option.{unwrap_or, option_map, ok_or, is_some, IfSome}
 use Rattle.std.specs.Result.{MatchResult}
-use Rattle.std.proofs.Math.Bool.{or-false}
+use Rattle.std.proofs.Math.Bool.{or-false, or-true}
 use Rattle.track.specs.Places.{last_or, data_place}
 use Rattle.track.proofs.Turns.{frames_turned, frames_split}
 use Rattle.std.proofs.lemmas.List.{append-nil}
@@ -43,21 +44,24 @@ place_known c t s w ps l b e h = (
       ∙ sound_last t s (frames_from c w (length c - w)) ps h),
 )
 
-module _ (t s : ℕ) (o : Option (Bool × (ℕ × ℕ))) (p q : ℕ × ℕ) (same : q ≡ p) where
+module _ (t s : ℕ) (h : Header) {o : Option (Bool × (ℕ × ℕ))} (e : Some (said h) ≡ o) where
   -- a sound header that names the block
-  pub named_sound : Some (true, p) ≡ o → true ≡ place_is t s q → sound_head t s o ≡ true
-  named_sound e h = sym (ap (sound_head t s) e) ∙ sym (h ∙ ap (place_is t s) same)
+  pub named_sound : {p q : ℕ × ℕ} → said h ≡ (true, p) → q ≡ p → true ≡ place_is t s q → sound_head t s o ≡ true
+  named_sound d same n = sym (ap (sound_head t s) e) ∙ ap (λ x. x.0 && place_is t s x.1) d ∙ sym (n ∙ ap (place_is t s) same)
 
   -- an unsound one
-  pub named_unsound : Some (false, p) ≡ o → true ≡ place_is t s q → (sound_head t s o ≡ false) × (unsound_head t s o ≡ true)
-  named_unsound e h = (sym (ap (sound_head t s) e), sym (ap (unsound_head t s) e) ∙ sym (h ∙ ap (place_is t s) same))
+  pub named_unsound : {p q : ℕ × ℕ} → said h ≡ (false, p) → q ≡ p → true ≡ place_is t s q → (sound_head t s o ≡ false) × (unsound_head t s o ≡ true)
+  named_unsound d same n = (
+    sym (ap (sound_head t s) e) ∙ ap (λ x. x.0 && place_is t s x.1) d,
+    sym (ap (unsound_head t s) e) ∙ ap (λ x. not x.0 && place_is t s x.1) d ∙ sym (n ∙ ap (place_is t s) same),
+  )
 
   -- one that names another block
-  pub named_other : (b : Bool) → Some (b, p) ≡ o → false ≡ place_is t s q → (sound_head t s o ≡ false) × (unsound_head t s o ≡ false)
-  named_other b e h =
-      let no = sym (h ∙ ap (place_is t s) same) in (
-        sym (ap (sound_head t s) e) ∙ and_right b (place_is t s p) no,
-        sym (ap (unsound_head t s) e) ∙ and_right (not b) (place_is t s p) no,
+  pub named_other : {b : Bool} {p q : ℕ × ℕ} → said h ≡ (b, p) → q ≡ p → false ≡ place_is t s q → (sound_head t s o ≡ false) × (unsound_head t s o ≡ false)
+  named_other {b} {p} {q} d same n =
+      let no = sym (n ∙ ap (place_is t s) same) in (
+        sym (ap (sound_head t s) e) ∙ ap (λ x. x.0 && place_is t s x.1) d ∙ and_right b (place_is t s p) no,
+        sym (ap (unsound_head t s) e) ∙ ap (λ x. not x.0 && place_is t s x.1) d ∙ and_right (not b) (place_is t s p) no,
       )
 
 -- the first frame follows the last
@@ -79,41 +83,99 @@ all_passed f e =
     let h = f.placed in
     sym (frames_split f.at c (omega arith) ∙ ap (λ (m : ℕ). passed f ++ frames_from c f.at (m - f.at)) l ∙ ap (λ (fs : List (List Bool)). passed f ++ fs) e ∙ append-nil (passed f))
 
--- the frame w after a sound header of the block is its data's: the next of those to come, or the first of all
-pub follows : (c : List Bool) (t s : ℕ) (a f f' g g' : Frames) (first h w : Window) (r : Option Window)
-    → whole a ≡ c → passed a ≡ [] → Next a first g → whole f ≡ c → Next f h f' → sound_head t s (header (shown h)) ≡ true → GivesNext f' r g' → w ≡ unwrap_or r first
-    → (shown w ≡ head_or (shown first) (rest f')) × Placed c t s w.first
-follows c t s a f f' g g' first h w None ea pa na ef nf sh n e =
-    let all : passed f' ≡ frames c = all_passed f' n ∙ ap frames (nf.stays ∙ ef) in
-    let last : sound_head t s (header (last_or [] (frames c))) ≡ true = ap (λ (l : List (List Bool)). sound_head t s (header (last_or [] l))) (sym all ∙ nf.passes) ∙ ap (λ (x : List Bool). sound_head t s (header x)) (last_push [] (shown h) (passed f)) ∙ sh in (
-      ap shown e ∙ sym (ap (head_or (shown first)) n),
-      subst (λ (x : Window). Placed c t s x.first) (sym e)
-          (place_round c t s first.first
-          (let l = ap length ea in let q = na.near in omega arith)
-          (ap (λ (z : List Bool). start (turned first.first z)) (sym ea) ∙ na.begins)
-          (ap (λ (z : List Bool). frames_from z 0 first.first) (sym ea) ∙ na.skips ∙ pa)
-          last),
-    )
-follows c t s a f f' g g' first h w (Some v) ea pa na ef nf sh n e =
-    let ev : whole f' ≡ c = nf.stays ∙ ef in
-    let last : sound_head t s (header (last_or [] (passed f'))) ≡ true = ap (λ (l : List (List Bool)). sound_head t s (header (last_or [] l))) nf.passes ∙ ap (λ (x : List Bool). sound_head t s (header x)) (last_push [] (shown h) (passed f)) ∙ sh in (
-      ap shown e ∙ sym (ap (head_or (shown first)) n.shows),
-      subst (λ (x : Window). Placed c t s x.first) (sym e)
-          (place_known c t s v.first (passed f')
-          (let l = ap length ev in let q = n.near in omega arith)
-          (ap (λ (z : List Bool). start (turned v.first z)) (sym ev) ∙ n.begins)
-          (ap (λ (z : List Bool). frames_from z 0 v.first) (sym ev) ∙ n.skips)
-          last),
-    )
+-- where a search for t/s stands once frames up to those of f have come, of which the circle's first is `first`
+pub record Seek (c : List Bool) (t s : ℕ) (first : Window) (o : Option Window) (u : Bool) (f : Frames) : Type 0 where
+  pub seeks : sought (frames c) t s ≡ seeking t s (shown first) (option_map shown o) u (rest f)
+  pub round : whole f ≡ c
+  pub known : IfSome o (λ w. Placed c t s w.first)
+
+-- the circle's first frame
+pub record First (c : List Bool) (first : Window) : Type 0 where
+  pub near : first.first < length c
+  pub begins : start (turned first.first c) ≡ true
+  pub alone : frames_from c 0 first.first ≡ []
+
+pub is_first : (c : List Bool) (f f' : Frames) (first : Window) (r : Option Window) → whole f ≡ c → passed f ≡ [] → GivesNext f r f' → r ≡ Some first → First c first
+is_first c f f' first r e p n g =
+    let m : Next f first f' = subst (λ x. GivesNext f x f') g n in
+    record {
+      near = (let l = ap length e in let q = m.near in omega arith);
+      begins = ap (λ (z : List Bool). start (turned first.first z)) (sym e) ∙ m.begins;
+      alone = ap (λ (z : List Bool). frames_from z 0 first.first) (sym e) ∙ m.skips ∙ p;
+    }
+
+module _ {c : List Bool} {t s : ℕ} {first : Window} {o : Option Window} {u : Bool} {f f' : Frames} {x : Window} (S : Seek c t s first o u f) (n : Next f x f') where
+  seek_on : (v : Bool) → sound_head t s (header (shown x)) ≡ false → (u || unsound_head t s (header (shown x))) ≡ v → Seek c t s first o v f'
+  seek_on v h g =
+      record {
+        seeks = S.seeks ∙ seek_miss t s (shown first) (shown x) (rest f) (rest f') n.shows (option_map shown o) u v h g;
+        round = n.stays ∙ S.round;
+        known = S.known;
+      }
+
+  -- x is no header of the block
+  pub seek_other : (sound_head t s (header (shown x)) ≡ false) × (unsound_head t s (header (shown x)) ≡ false) → Seek c t s first o u f'
+  seek_other h = seek_on u h.0 (ap (λ (b : Bool). u || b) h.1 ∙ or-false u)
+
+  -- an unsound one
+  pub seek_unsound : (sound_head t s (header (shown x)) ≡ false) × (unsound_head t s (header (shown x)) ≡ true) → Seek c t s first o true f'
+  seek_unsound h = seek_on true h.0 (ap (λ (b : Bool). u || b) h.1 ∙ or-true u)
+
+  -- a second sound one
+  pub seek_second : sound_head t s (header (shown x)) ≡ true → true ≡ is_some o → sought (frames c) t s ≡ missing TwoHeaders
+  seek_second h g =
+      S.seeks ∙ seek_some t s (shown first) (shown x) (rest f) (rest f') n.shows (option_map shown o) u h (g ∙ kept shown o)
+
+  sound_last_come : sound_head t s (header (shown x)) ≡ true → sound_head t s (header (last_or [] (passed f'))) ≡ true
+  sound_last_come h =
+      ap (λ (l : List (List Bool)). sound_head t s (header (last_or [] l))) n.passes
+      ∙ ap (λ (g : List Bool). sound_head t s (header g)) (last_push [] (shown x) (passed f)) ∙ h
+
+  -- the frame after it is the next of those to come, or the first of all
+  follows : (w : Window) (r : Option Window) (g : Frames) → First c first → sound_head t s (header (shown x)) ≡ true → GivesNext f' r g → w ≡ unwrap_or r first
+      → (shown w ≡ head_or (shown first) (rest f')) × Placed c t s w.first
+  follows w None g F h m e =
+      let all : passed f' ≡ frames c = all_passed f' m ∙ ap frames (n.stays ∙ S.round) in (
+        ap shown e ∙ sym (ap (head_or (shown first)) m),
+        subst (λ (y : Window). Placed c t s y.first) (sym e)
+            (place_round c t s first.first F.near F.begins F.alone (ap (λ (l : List (List Bool)). sound_head t s (header (last_or [] l))) (sym all) ∙ sound_last_come h)),
+      )
+  follows w (Some v) g F h m e =
+      let k : whole f' ≡ c = n.stays ∙ S.round in (
+        ap shown e ∙ sym (ap (head_or (shown first)) m.shows),
+        subst (λ (y : Window). Placed c t s y.first) (sym e)
+            (place_known c t s v.first (passed f')
+            (let l = ap length k in let q = m.near in omega arith)
+            (ap (λ (z : List Bool). start (turned v.first z)) (sym k) ∙ m.begins)
+            (ap (λ (z : List Bool). frames_from z 0 v.first) (sym k) ∙ m.skips)
+            (sound_last_come h)),
+      )
+
+  -- x is the first sound one, and w the frame after it
+  pub seek_found : (w : Window) (r : Option Window) (g : Frames) → First c first → sound_head t s (header (shown x)) ≡ true → false ≡ is_some o → GivesNext f' r g → w ≡ unwrap_or r first
+      → Seek c t s first (Some w) u f'
+  seek_found w r g F h l m e =
+      let a = follows w r g F h m e in
+      record {
+        seeks = S.seeks
+            ∙ seek_first t s (shown first) (shown x) (rest f) (rest f') n.shows (option_map shown o) u h (l ∙ kept shown o)
+            ∙ ap (λ (d : List Bool). seeking t s (shown first) (Some d) u (rest f')) (sym a.0);
+        round = n.stays ∙ S.round;
+        known = a.1;
+      }
 
 -- what the search answers once all frames have come
-pub sought_all : (c : List Bool) (t s n : ℕ) (first : List Bool) (u : Bool) (x : Sought) (e : Cause) (o : Option Window) (r : Result Window Cause)
-    → x ≡ seeking t s first (option_map shown o) u [] → IfSome o (λ w. Placed c t s w.first) → length c ≡ n → e ≡ cond u BadHeader NoHeader → r ≡ ok_or o e
-    → MatchResult r (λ w. (x ≡ at (shown w)) × (w.first < n) × (data_place c t s w.first ≡ true)) (λ m. x ≡ missing m)
-sought_all c t s n first u x e None r v h l f g =
-    subst (λ y. MatchResult y (λ w. (x ≡ at (shown w)) × (w.first < n) × (data_place c t s w.first ≡ true)) (λ m. x ≡ missing m)) (sym g)
-    (v ∙ ap (λ (b : Bool). missing (cond b BadHeader NoHeader)) (or-false u) ∙ ap missing (sym f))
-sought_all c t s n first u x e (Some w) r v h l f g =
-    let p = h.0 in
-    subst (λ y. MatchResult y (λ w. (x ≡ at (shown w)) × (w.first < n) × (data_place c t s w.first ≡ true)) (λ m. x ≡ missing m)) (sym g)
-    (v, omega arith, h.1)
+pub seek_done : {c : List Bool} {t s : ℕ} {first : Window} {u : Bool} {f : Frames} (o : Option Window) (n : ℕ) (e : Cause) (r : Result Window Cause)
+    → Seek c t s first o u f → rest f ≡ [] → length c ≡ n → e ≡ cond u BadHeader NoHeader → r ≡ ok_or o e
+    → MatchResult r (λ w. (sought (frames c) t s ≡ at (shown w)) × (w.first < n) × (data_place c t s w.first ≡ true)) (λ m. sought (frames c) t s ≡ missing m)
+seek_done {c} {t} {s} {first} {u} {f} o n e r S d l h g = subst P (sym g) (answered o S)
+  where
+    P : Result Window Cause → Type 0
+    P y = MatchResult y (λ w. (sought (frames c) t s ≡ at (shown w)) × (w.first < n) × (data_place c t s w.first ≡ true)) (λ m. sought (frames c) t s ≡ missing m)
+
+    answered : (o : Option Window) → Seek c t s first o u f → P (ok_or o e)
+    answered None S =
+        S.seeks ∙ ap (seeking t s (shown first) None u) d ∙ ap (λ (b : Bool). missing (cond b BadHeader NoHeader)) (or-false u) ∙ ap missing (sym h)
+    answered (Some w) S =
+        let p = S.known.0 in
+        (S.seeks ∙ ap (seeking t s (shown first) (Some (shown w)) u) d, omega arith, S.known.1)

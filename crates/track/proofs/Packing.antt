@@ -1,9 +1,9 @@
 -- Packing bits into bytes, byte by byte.
-use Rattle.std.proofs.Common.{◌≡◌, ℕ, suc, ◌+◌, ◌-◌, ◌*◌, ◌^◌, ◌<◌, ◌≤◌, Bool, false, cond, eqb, List, [], ◌∷◌, ◌++◌, length, get_or, take, drop, set, sym, ap, ◌∙◌, inl, inr, arith, pow-add}
-use Rattle.std.proofs.lemmas.List.{append_assoc, append-nil, drop_more, drop_all, drop-drop, take_more_set, drop-set-lt, take-append-drop, length-take-le, get_or_past}
+use Rattle.std.proofs.Common.{◌≡◌, ℕ, suc, ◌+◌, ◌-◌, ◌*◌, ◌^◌, ◌<◌, Bool, false, cond, eqb, List, [], ◌∷◌, ◌++◌, length, get_or, take, drop, sym, ap, ◌∙◌, inl, inr, arith, pow-add}
+use Rattle.std.proofs.lemmas.List.{drop_more, drop_all, get_or_past}
 use Rattle.std.proofs.lemmas.Bool.{cond-true, cond-false, cases_eq, cases_lt, eq-eqb, ne_eqb}
 use Rattle.gcr.specs.Bits.{and_bit}
-use Rattle.track.specs.Fetching.{pack, packed, laid}
+use Rattle.track.specs.Fetching.{pack, packed}
 
 -- what j bits that write `code`, and bits to come, are packed into; the eighth bit ends the byte
 abbrev pub begun : ℕ → ℕ → List Bool → List ℕ
@@ -55,18 +55,3 @@ begun_step l j code code' b n h e f =
 -- a list being packed: n bytes are done
 abbrev pub Packing : List Bool → List ℕ → List ℕ → ℕ → Type 0
 Packing a old buf n = (pack a ≡ take n buf ++ pack (drop (n * 8) a)) × (drop n buf ≡ drop n old)
-
-pub packing_step : (a : List Bool) (old buf : List ℕ) (n v : ℕ) → Packing a old buf n → n < length buf → pack (drop (n * 8) a) ≡ v ∷ pack (drop (n * 8 + 8) a) → Packing a old (set buf n v) (n + 1)
-packing_step a old buf n v P h e = (
-  P.0 ∙ ap (λ (z : List ℕ). take n buf ++ z) e
-      ∙ sym (append_assoc (take n buf) (v ∷ []) (pack (drop (n * 8 + 8) a)))
-      ∙ ap (λ (z : List ℕ). z ++ pack (drop (n * 8 + 8) a)) (sym (take_more_set buf n v h))
-      ∙ ap (λ (i : ℕ). take (n + 1) (set buf n v) ++ pack (drop i a)) (let z : n * 8 + 8 ≡ (n + 1) * 8 = omega arith in z),
-  drop-set-lt (n + 1) buf n v (omega arith) ∙ sym (drop-drop 1 n buf) ∙ ap (drop 1) P.1 ∙ drop-drop 1 n old,
-)
-
-pub packing_done : (a : List Bool) (old buf : List ℕ) (n : ℕ) → Packing a old buf n → length a ≤ n * 8 → n ≤ length buf → buf ≡ laid (pack a) old
-packing_done a old buf n P h l =
-    let t : pack a ≡ take n buf = P.0 ∙ ap (λ (z : List Bool). take n buf ++ pack z) (drop_all (n * 8) a h) ∙ append-nil (take n buf) in
-    let m : n ≡ length (pack a) = sym (ap length t ∙ length-take-le n buf l) in
-    sym (take-append-drop n buf) ∙ ap (λ (z : List ℕ). z ++ drop n buf) (sym t) ∙ ap (λ (z : List ℕ). pack a ++ z) (P.1 ∙ ap (λ (k : ℕ). drop k old) m)

@@ -1,6 +1,7 @@
 -- A search for a block, frame by frame.
 use Rattle.std.proofs.Common.{◌≡◌, ℕ, Bool, true, false, cond, ◌||◌, List, [], ◌∷◌, ◌++◌, Some, None, Option, sym, refl, ap, ◌∙◌}
 use Rattle.std.proofs.lemmas.Bool.{true≢false, false≢true}
+use Rattle.std.proofs.Math.Bool.{or_assoc}
 use Rattle.std.specs.Option.{is_some, option_map}
 use Rattle.track.specs.Headers.{header, sound_head, unsound_head}
 use Rattle.track.specs.Reading.{any, head_or, linked, from_hits, hits, sought, Sought, missing}
@@ -19,10 +20,6 @@ pub seek_start : (t s : ℕ) (f : List Bool) (fs gs : List (List Bool)) → gs �
 seek_start t s f fs gs e =
     ap (λ (l : List (List Bool)). sought l t s) e ∙ ap (seeking t s f None false) (sym e)
 
-or_assoc : (u v w : Bool) → (u || (v || w)) ≡ ((u || v) || w)
-or_assoc true v w = refl
-or_assoc false v w = refl
-
 one_hit : (x d : List Bool) (l : List (List Bool × List Bool)) (u v : Bool) → from_hits ((x, d) ∷ l) u ≡ from_hits (([], d) ∷ l) v
 one_hit x d [] u v = refl
 one_hit x d (p ∷ l) u v = refl
@@ -33,7 +30,7 @@ module _ (t s : ℕ) (first x : List Bool) (gs fs : List (List Bool)) (e : gs �
   seek_miss o u v h g =
       ap (seeking t s first o u) e
       ∙ ap (λ (b : Bool). from_hits (met o ++ cond b ((x, head_or first fs) ∷ hits t s (linked first fs)) (hits t s (linked first fs))) (u || (unsound_head t s (header x) || any (λ g. unsound_head t s (header g)) fs))) h
-      ∙ ap (from_hits (met o ++ hits t s (linked first fs))) (or_assoc u (unsound_head t s (header x)) (any (λ g. unsound_head t s (header g)) fs) ∙ ap (λ (b : Bool). b || any (λ g. unsound_head t s (header g)) fs) g)
+      ∙ ap (from_hits (met o ++ hits t s (linked first fs))) (sym (or_assoc u (unsound_head t s (header x)) (any (λ g. unsound_head t s (header g)) fs)) ∙ ap (λ (b : Bool). b || any (λ g. unsound_head t s (header g)) fs) g)
 
   -- the first sound header
   seek_hit : (u : Bool) → sound_head t s (header x) ≡ true → seeking t s first None u gs ≡ seeking t s first (Some (head_or first fs)) u fs
@@ -56,6 +53,6 @@ module _ (t s : ℕ) (first x : List Bool) (gs fs : List (List Bool)) (e : gs �
   seek_some None u h f = absurd (true≢false f)
   seek_some (Some d) u h f = seek_two d u h
 
-pub mapped : {X Y : Type 0} (f : X → Y) (o : Option X) → is_some o ≡ is_some (option_map f o)
-mapped f None = refl
-mapped f (Some x) = refl
+pub kept : {X Y : Type 0} (f : X → Y) (o : Option X) → is_some o ≡ is_some (option_map f o)
+kept f None = refl
+kept f (Some x) = refl

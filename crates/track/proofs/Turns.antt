@@ -1,5 +1,6 @@
 use Rattle.std.proofs.Common.{◌≡◌, ℕ, zero, suc, ◌+◌, ◌-◌, ◌<◌, ◌≤◌, Bool, true, false, cond, ◌||◌, List, [], ◌∷◌, ◌++◌, length, take, drop, filter, sym, refl, ap, ◌∙◌, add-zero, suc-add, zero-add, arith, take-add}
 use Rattle.std.proofs.lemmas.List.{append_assoc, append-nil, drop-drop, drop-append-le, take-append-le, take-take, take_at, drop_at, take-append-drop, length-drop, length-append, drop-take}
+use Rattle.std.proofs.Math.Bool.{or_assoc, or_comm}
 use Rattle.std.proofs.lemmas.List.Elements.{filter-append}
 use Rattle.track.specs.Circles.{turned, start, before, frames_from, frames}
 use Rattle.track.specs.Headers.{header, sound_head, unsound_head}
@@ -100,19 +101,9 @@ hits_swap (p ∷ r ∷ ps) (q ∷ v ∷ qs) u = refl
 any_swap : {X : Type 0} (p : X → Bool) (xs ys : List X) → any p (xs ++ ys) ≡ any p (ys ++ xs)
 any_swap {X = X} p xs ys = any_append xs ys ∙ or_comm (any p xs) (any p ys) ∙ sym (any_append ys xs)
   where
-    or_assoc : (u v w : Bool) → (u || (v || w)) ≡ ((u || v) || w)
-    or_assoc true v w = refl
-    or_assoc false v w = refl
-
-    or_comm : (u v : Bool) → (u || v) ≡ (v || u)
-    or_comm true true = refl
-    or_comm true false = refl
-    or_comm false true = refl
-    or_comm false false = refl
-
     any_append : (xs ys : List X) → any p (xs ++ ys) ≡ (any p xs || any p ys)
     any_append [] ys = refl
-    any_append (x ∷ xs) ys = ap (λ b. p x || b) (any_append xs ys) ∙ or_assoc (p x) (any p xs) (any p ys)
+    any_append (x ∷ xs) ys = ap (λ b. p x || b) (any_append xs ys) ∙ sym (or_assoc (p x) (any p xs) (any p ys))
 
 sought_swap : (xs ys : List (List Bool)) (t s : ℕ) → sought (xs ++ ys) t s ≡ sought (ys ++ xs) t s
 sought_swap [] ys t s = ap (λ (l : List (List Bool)). sought l t s) (sym (append-nil ys))

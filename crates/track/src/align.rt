@@ -8,7 +8,7 @@ ghost use Rattle.track.specs.Shown.{circle_bits};
 use crate::circle::Circle;
 
 impl<'a> Circle<'a> {
-    // The first place right after a sync, or 0 where there is none.
+    // The first place right after a sync, or 0 where there is none: a circle turned to 0 stays as it is.
     pub fn first_start(&self) -> usize
         ensures place { result ≡ first_start (circle_bits self.now) }
         ensures small { result < 65536 }
@@ -37,6 +37,7 @@ impl<'a> Circle<'a> {
         requires room { 8192 ≤ length buffer.old }
         ensures { buffer.new ≡ laid (pack (turned first (circle_bits self.now))) buffer.old }
     {
+        // By index: behind `iter_mut` the loop's invariant names no byte that was written, and `returns` stays open.
         for k in 0..self.bits.div_ceil(8) {
             buffer[k] = self.packed_byte(first, k);
         }

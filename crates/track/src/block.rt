@@ -25,6 +25,7 @@ impl<'a> Window<'a> {
             return Err(Cause::ShortFrame);
         }
         let mut bytes = [0; 256];
+        // By index: behind `iter_mut` the loop's invariant names no byte that was written, and `returns` stays open.
         for k in 0..256 {
             bytes[k as usize] = self.byte(k + 1).ok_or(Cause::BadCode)?;
         }
