@@ -8,8 +8,9 @@ use Rattle.std.proofs.lemmas.List.Sums.{fold_more}
 use Rattle.gcr.specs.Bits.{bits_of, value, and_bit}
 use Rattle.gcr.specs.Codes.{byte_of, coded}
 use Rattle.gcr.proofs.Bits.{length_bits_of}
-use Rattle.track.specs.Shown.{circle_bits, shown}
+use Rattle.track.specs.Shown.{circle_bits, turned_bits, shown}
 use Rattle.track.specs.declared.circle.Circle.{Circle}
+use Rattle.track.specs.declared.turned.Turned.{Turned}
 use Rattle.track.specs.declared.window.Window.{Window}
 use Rattle.track.specs.Circles.{circle_of, turned, ones, before, start, frames_from}
 
@@ -68,8 +69,8 @@ take_before (b ∷ l) =
 pub length_bits : (c : Circle) → length (circle_bits c) ≡ c.bits
 length_bits c = length_circle c.bits c.bytes.now c.held
 
-pub len : (first : ℕ) (c : Circle) → length (turned first (circle_bits c)) ≡ c.bits
-len first c = length_turned first (circle_bits c) ∙ length_bits c
+pub len : (t : Turned) → length (turned_bits t) ≡ t.circle.bits
+len t = length_turned t.first (circle_bits t.circle) ∙ length_bits t.circle
 
 pub start_is : (a : List Bool) (b : ℕ) → false ≡ get_or a 0 false → b ≡ length a - 10 → ones 10 (drop b a) ≡ start a
 start_is a b e f =
@@ -102,8 +103,7 @@ coded_long l h = sym (cond-true (leb 10 (length l)) (byte_of (value (take 10 l))
 
 pub length_shown : (w : Window) → length (shown w) ≡ w.count
 length_shown w =
-    length-take-le w.count (turned w.first (circle_bits w.circle))
-    (let e = len w.first w.circle in let h = w.within in omega arith)
+    length-take-le w.count (turned_bits w.turned) (let e = len w.turned in let h = w.within in omega arith)
 
 -- the place at which the first of the frames among n places begins, or that none does
 abbrev pub Found : List Bool → ℕ → ℕ → Option ℕ → Type 0

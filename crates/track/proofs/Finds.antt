@@ -87,21 +87,21 @@ all_passed f e =
 pub record Seek (c : List Bool) (t s : ℕ) (first : Window) (o : Option Window) (u : Bool) (f : Frames) : Type 0 where
   pub seeks : sought (frames c) t s ≡ seeking t s (shown first) (option_map shown o) u (rest f)
   pub round : whole f ≡ c
-  pub known : IfSome o (λ w. Placed c t s w.first)
+  pub known : IfSome o (λ w. Placed c t s w.turned.first)
 
 -- the circle's first frame
 pub record First (c : List Bool) (first : Window) : Type 0 where
-  pub near : first.first < length c
-  pub begins : start (turned first.first c) ≡ true
-  pub alone : frames_from c 0 first.first ≡ []
+  pub near : first.turned.first < length c
+  pub begins : start (turned first.turned.first c) ≡ true
+  pub alone : frames_from c 0 first.turned.first ≡ []
 
 pub is_first : (c : List Bool) (f f' : Frames) (first : Window) (r : Option Window) → whole f ≡ c → passed f ≡ [] → GivesNext f r f' → r ≡ Some first → First c first
 is_first c f f' first r e p n g =
     let m : Next f first f' = subst (λ x. GivesNext f x f') g n in
     record {
       near = (let l = ap length e in let q = m.near in omega arith);
-      begins = ap (λ (z : List Bool). start (turned first.first z)) (sym e) ∙ m.begins;
-      alone = ap (λ (z : List Bool). frames_from z 0 first.first) (sym e) ∙ m.skips ∙ p;
+      begins = ap (λ (z : List Bool). start (turned first.turned.first z)) (sym e) ∙ m.begins;
+      alone = ap (λ (z : List Bool). frames_from z 0 first.turned.first) (sym e) ∙ m.skips ∙ p;
     }
 
 module _ {c : List Bool} {t s : ℕ} {first : Window} {o : Option Window} {u : Bool} {f f' : Frames} {x : Window} (S : Seek c t s first o u f) (n : Next f x f') where
@@ -133,21 +133,21 @@ module _ {c : List Bool} {t s : ℕ} {first : Window} {o : Option Window} {u : B
 
   -- the frame after it is the next of those to come, or the first of all
   follows : (w : Window) (r : Option Window) (g : Frames) → First c first → sound_head t s (header (shown x)) ≡ true → GivesNext f' r g → w ≡ unwrap_or r first
-      → (shown w ≡ head_or (shown first) (rest f')) × Placed c t s w.first
+      → (shown w ≡ head_or (shown first) (rest f')) × Placed c t s w.turned.first
   follows w None g F h m e =
       let all : passed f' ≡ frames c = all_passed f' m ∙ ap frames (n.stays ∙ S.round) in (
         ap shown e ∙ sym (ap (head_or (shown first)) m),
-        subst (λ (y : Window). Placed c t s y.first) (sym e)
-            (place_round c t s first.first F.near F.begins F.alone (ap (λ (l : List (List Bool)). sound_head t s (header (last_or [] l))) (sym all) ∙ sound_last_come h)),
+        subst (λ (y : Window). Placed c t s y.turned.first) (sym e)
+            (place_round c t s first.turned.first F.near F.begins F.alone (ap (λ (l : List (List Bool)). sound_head t s (header (last_or [] l))) (sym all) ∙ sound_last_come h)),
       )
   follows w (Some v) g F h m e =
       let k : whole f' ≡ c = n.stays ∙ S.round in (
         ap shown e ∙ sym (ap (head_or (shown first)) m.shows),
-        subst (λ (y : Window). Placed c t s y.first) (sym e)
-            (place_known c t s v.first (passed f')
+        subst (λ (y : Window). Placed c t s y.turned.first) (sym e)
+            (place_known c t s v.turned.first (passed f')
             (let l = ap length k in let q = m.near in omega arith)
-            (ap (λ (z : List Bool). start (turned v.first z)) (sym k) ∙ m.begins)
-            (ap (λ (z : List Bool). frames_from z 0 v.first) (sym k) ∙ m.skips)
+            (ap (λ (z : List Bool). start (turned v.turned.first z)) (sym k) ∙ m.begins)
+            (ap (λ (z : List Bool). frames_from z 0 v.turned.first) (sym k) ∙ m.skips)
             (sound_last_come h)),
       )
 
@@ -167,11 +167,11 @@ module _ {c : List Bool} {t s : ℕ} {first : Window} {o : Option Window} {u : B
 -- what the search answers once all frames have come
 pub seek_done : {c : List Bool} {t s : ℕ} {first : Window} {u : Bool} {f : Frames} (o : Option Window) (n : ℕ) (e : Cause) (r : Result Window Cause)
     → Seek c t s first o u f → rest f ≡ [] → length c ≡ n → e ≡ cond u BadHeader NoHeader → r ≡ ok_or o e
-    → MatchResult r (λ w. (sought (frames c) t s ≡ at (shown w)) × (w.first < n) × (data_place c t s w.first ≡ true)) (λ m. sought (frames c) t s ≡ missing m)
+    → MatchResult r (λ w. (sought (frames c) t s ≡ at (shown w)) × (w.turned.first < n) × (data_place c t s w.turned.first ≡ true)) (λ m. sought (frames c) t s ≡ missing m)
 seek_done {c} {t} {s} {first} {u} {f} o n e r S d l h g = subst P (sym g) (answered o S)
   where
     P : Result Window Cause → Type 0
-    P y = MatchResult y (λ w. (sought (frames c) t s ≡ at (shown w)) × (w.first < n) × (data_place c t s w.first ≡ true)) (λ m. sought (frames c) t s ≡ missing m)
+    P y = MatchResult y (λ w. (sought (frames c) t s ≡ at (shown w)) × (w.turned.first < n) × (data_place c t s w.turned.first ≡ true)) (λ m. sought (frames c) t s ≡ missing m)
 
     answered : (o : Option Window) → Seek c t s first o u f → P (ok_or o e)
     answered None S =

@@ -2,6 +2,7 @@
 use Rattle.std.specs.Prelude.{◌≡◌, ℕ, ◌-◌, ◌<◌, Bool, true, false, List, [], ◌∷◌, ◌++◌, length, take, Option, MatchOption}
 use Rattle.track.specs.Circles.{turned, circle_of, start, frames_from}
 use Rattle.track.specs.declared.circle.Circle.{Circle}
+use Rattle.track.specs.declared.turned.Turned.{Turned}
 use Rattle.track.specs.declared.window.Window.{Window}
 use Rattle.track.specs.declared.window.Header.{Header}
 use Rattle.track.specs.declared.window.Header.TheVariants.{Sound, Unsound}
@@ -11,9 +12,13 @@ use Rattle.track.specs.declared.frames.Frames.{Frames}
 abbrev pub circle_bits : Circle → List Bool
 circle_bits c = circle_of c.bits c.bytes.now
 
+-- the bits of a turned circle
+abbrev pub turned_bits : Turned → List Bool
+turned_bits t = turned t.first (circle_bits t.circle)
+
 -- the bits that a window shows
 abbrev pub shown : Window → List Bool
-shown w = take w.count (turned w.first (circle_bits w.circle))
+shown w = take w.count (turned_bits w.turned)
 
 -- whether a header is sound, and the track and sector that it names
 abbrev pub said : Header → Bool × (ℕ × ℕ)
@@ -34,11 +39,11 @@ passed s = frames_from (circle_bits s.circle) 0 s.at
 -- the next frame is w
 pub record Next (s : Frames) (w : Window) (s' : Frames) : Type 0 where
   pub shows : rest s ≡ shown w ∷ rest s'
-  pub begins : start (turned w.first (whole s)) ≡ true
-  pub skips : frames_from (whole s) 0 w.first ≡ passed s
+  pub begins : start (turned w.turned.first (whole s)) ≡ true
+  pub skips : frames_from (whole s) 0 w.turned.first ≡ passed s
   pub passes : passed s' ≡ passed s ++ shown w ∷ []
   pub stays : whole s' ≡ whole s
-  pub near : w.first < length (whole s)
+  pub near : w.turned.first < length (whole s)
 
 -- the next frame comes, or none is left
 abbrev pub GivesNext : Frames → Option Window → Frames → Type 0

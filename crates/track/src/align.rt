@@ -3,9 +3,37 @@ ghost use Rattle.std.specs.Prelude.{◌≡◌, ℕ, ◌+◌, ◌*◌, ◌<◌, �
 ghost use Rattle.track.specs.Circles.{turned};
 ghost use Rattle.track.specs.Fetching.{pack, laid};
 ghost use Rattle.track.specs.Aligning.{first_start, pack_buffer};
-ghost use Rattle.track.specs.Shown.{circle_bits};
+ghost use Rattle.track.specs.Shown.{circle_bits, turned_bits};
 
 use crate::circle::Circle;
+use crate::turned::Turned;
+
+impl<'a> Turned<'a> {
+    // The eight bits of byte `k`; past the circle's end they are zeros.
+    fn packed_byte(&self, k: usize) -> u8
+        requires { k * 8 < self.now.circle.bits }
+        ensures { pack (drop (k * 8) (turned_bits self.now)) ≡ result ∷ pack (drop (k * 8 + 8) (turned_bits self.now)) }
+    {
+        let mut code = 0;
+        for j in 0..8 {
+            let i = k * 8 + j;
+            let bit = i < self.circle.bits && self.bit(i);
+            code = code * 2 + bit as u8;
+        }
+        code
+    }
+
+    // Writes the bits into a buffer that holds them, the last byte filled with zeros.
+    fn pack(&self, buffer: &mut [u8])
+        requires { 8192 ≤ length buffer.old }
+        ensures { buffer.new ≡ laid (pack (turned_bits self.now)) buffer.old }
+    {
+        // By index: behind `iter_mut` the loop's invariant names no byte that was written, and `returns` stays open.
+        for k in 0..self.circle.bits.div_ceil(8) {
+            buffer[k] = self.packed_byte(k);
+        }
+    }
+}
 
 impl<'a> Circle<'a> {
     // The first place right after a sync, or 0 where there is none: a circle turned to 0 stays as it is.
@@ -16,33 +44,6 @@ impl<'a> Circle<'a> {
         self.next_start(0).unwrap_or(0)
     }
 
-    // The eight bits of byte `k`, counted from bit `first`; past the circle's end they are zeros.
-    fn packed_byte(&self, first: usize, k: usize) -> u8
-        requires placed { first < self.now.bits }
-        requires within { k * 8 < self.now.bits }
-        ensures { pack (drop (k * 8) (turned first (circle_bits self.now))) ≡ result ∷ pack (drop (k * 8 + 8) (turned first (circle_bits self.now))) }
-    {
-        let mut code = 0;
-        for j in 0..8 {
-            let i = k * 8 + j;
-            let bit = i < self.bits && self.bit(first, i);
-            code = code * 2 + bit as u8;
-        }
-        code
-    }
-
-    // Writes the circle from bit `first` on into a buffer that holds it.
-    fn pack_from(&self, first: usize, buffer: &mut [u8])
-        requires placed { 0 < self.now.bits → first < self.now.bits }
-        requires room { 8192 ≤ length buffer.old }
-        ensures { buffer.new ≡ laid (pack (turned first (circle_bits self.now))) buffer.old }
-    {
-        // By index: behind `iter_mut` the loop's invariant names no byte that was written, and `returns` stays open.
-        for k in 0..self.bits.div_ceil(8) {
-            buffer[k] = self.packed_byte(first, k);
-        }
-    }
-
     // Writes the circle, turned to begin at bit `first`, into a buffer, the last byte filled with zeros. A buffer too small for any track stays as it is.
     pub fn pack_turned(&self, first: usize, buffer: &mut [u8])
         ensures { buffer.new ≡ pack_buffer (turned first (circle_bits self.now)) buffer.old }
@@ -50,10 +51,9 @@ impl<'a> Circle<'a> {
         if buffer.len() < 8192 {
             return;
         }
-        if first < self.bits {
-            self.pack_from(first, buffer);
-        } else {
-            self.pack_from(0, buffer);
+        // A circle turned past its end stays as it is, and one of no bits has none to write.
+        if let Some(turned) = self.turned_at(first).or(self.turned_at(0)) {
+            turned.pack(buffer);
         }
     }
 }

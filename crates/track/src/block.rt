@@ -41,7 +41,7 @@ impl<'a> Window<'a> {
 impl<'a> Circle<'a> {
     // Finds the frame that holds the data of a block: it follows the one sound header that names the block.
     pub(crate) fn find(&self, wanted: Place) -> Result<Window<'a>, Cause>
-        ensures { MatchResult result (λ w. (sought (frames (circle_bits self.now)) wanted.0 wanted.1 ≡ at (shown w)) × (w.first < self.now.bits) × (data_place (circle_bits self.now) wanted.0 wanted.1 w.first ≡ true)) (λ n. sought (frames (circle_bits self.now)) wanted.0 wanted.1 ≡ missing n) }
+        ensures { MatchResult result (λ w. (sought (frames (circle_bits self.now)) wanted.0 wanted.1 ≡ at (shown w)) × (w.turned.first < self.now.bits) × (data_place (circle_bits self.now) wanted.0 wanted.1 w.turned.first ≡ true)) (λ n. sought (frames (circle_bits self.now)) wanted.0 wanted.1 ≡ missing n) }
     {
         let first = self.frames().next().ok_or(Cause::NoFrame)?;
         let mut frames = self.frames();

@@ -2,6 +2,7 @@
 ghost use Rattle.std.specs.Prelude.{ℕ, ◌≤◌};
 
 use crate::circle::Circle;
+use crate::turned::Turned;
 use crate::window::Window;
 
 // The frames that begin at bit `at` or later.
@@ -44,10 +45,10 @@ impl<'a> Iterator for Frames<'a> {
         let circle = self.circle;
         let first = circle.next_start(self.at)?;
         self.at = first + 1;
+        let turned = Turned { circle, first };
         Some(Window {
-            circle,
-            first,
-            count: circle.frame_bits(first),
+            turned,
+            count: turned.frame_bits(),
         })
     }
 }

@@ -9,4 +9,5 @@ pub mod laws;
 pub mod medium;
 pub mod room;
 pub mod source;
+mod turned;
 mod window;

@@ -23,6 +23,6 @@ impl<'a> Circle<'a> {
         if window.count < DATA_BITS {
             return Err(Cause::ShortFrame);
         }
-        Ok(window.first)
+        Ok(window.turned.first)
     }
 }

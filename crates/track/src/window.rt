@@ -1,18 +1,16 @@
 // Frames as windows on a circle.
-ghost use Rattle.std.specs.Prelude.{ℕ, ◌<◌, ◌≤◌};
+ghost use Rattle.std.specs.Prelude.{ℕ, ◌≤◌};
 
-use crate::circle::Circle;
+use crate::turned::Turned;
 use disk::place::*;
 use gcr::byte::*;
 
-// A frame: `count` bits from bit `first` of the circle on. It may run over the end.
+// A frame: the first `count` bits of a circle turned to its begin. It may run over the circle's end.
 #[derive(Clone, Copy)]
 pub(crate) struct Window<'a> {
-    pub circle: Circle<'a>,
-    pub first: usize,
+    pub turned: Turned<'a>,
     pub count: usize,
-    ghost placed: { first < circle.bits },
-    ghost within: { count ≤ circle.bits },
+    ghost within: { count ≤ turned.circle.bits },
 }
 
 // What a frame says as a header: the block that it names, and whether its checksum is right.
@@ -23,7 +21,7 @@ pub(crate) enum Header {
 }
 
 impl<'a> Window<'a> {
-    ghost use Rattle.std.specs.Prelude.{◌≡◌, false, slice_index_or};
+    ghost use Rattle.std.specs.Prelude.{◌≡◌, ◌<◌, false, slice_index_or};
     ghost use Rattle.std.specs.Option.{option_map};
     ghost use Rattle.track.specs.Headers.{byte_at, header};
     ghost use Rattle.track.specs.Shown.{shown, said};
@@ -33,7 +31,7 @@ impl<'a> Window<'a> {
         requires { i < self.now.count }
         ensures { result ≡ slice_index_or (shown self.now) i false }
     {
-        self.circle.bit(self.first, i)
+        self.turned.bit(i)
     }
 
     // Coded byte `k` of the frame.

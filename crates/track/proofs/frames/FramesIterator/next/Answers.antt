@@ -2,7 +2,7 @@ use Rattle.std.proofs.Common.{◌≡◌, ℕ, ◌+◌, ◌-◌, Bool, List, [], 
 use Rattle.std.proofs.lemmas.List.{append-nil}
 use Rattle.track.specs.Circles.{turned, before, frames_from}
 use Rattle.track.specs.Shown.{circle_bits, GivesNext}
-use Rattle.track.proofs.Circles.{length_bits, len, Found, found, found_at, frames_take, take_before, before_le}
+use Rattle.track.proofs.Circles.{length_bits, length_turned, Found, found, found_at, frames_take, take_before, before_le}
 use Rattle.track.proofs.Turns.{frames_append}
 use Rattle.track.proofs.frames.FramesIterator.next.Goals as goal
 
@@ -24,14 +24,18 @@ invariant_of-self c =
     let f = found_at (circle_bits s.circle) s.at (s.circle.bits - s.at) _ c.in_ok-first.ensures in
     let l = f.1 in record { placed = omega arith }
 
-pub invariant_of-result : goal.invariant_of-result
-invariant_of-result c =
+pub invariant_of-turned : goal.invariant_of-turned
+invariant_of-turned c =
     let s = c.args.self.now in
     let f = found_at (circle_bits s.circle) s.at (s.circle.bits - s.at) _ c.in_ok-first.ensures in
-    let l = f.1 in
-    let n = len c.in_ok-first.first s.circle in
-    let m = before_le (turned c.in_ok-first.first (circle_bits s.circle)) in
-    record { placed = omega arith; within = omega arith }
+    let l = f.1 in record { placed = omega arith }
+
+pub invariant_of-result : goal.invariant_of-result
+invariant_of-result c =
+    let k = c.args.self.now.circle in
+    let n = length_turned c.in_ok-first.first (circle_bits k) ∙ length_bits k in
+    let m = before_le (turned c.in_ok-first.first (circle_bits k)) in
+    record { within = omega arith }
 
 pub returns-clause-steps : goal.returns-clause-steps
 returns-clause-steps c =

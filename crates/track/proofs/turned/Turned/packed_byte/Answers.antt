@@ -1,18 +1,17 @@
 use Rattle.std.proofs.Common.{◌≡◌, ℕ, ◌+◌, ◌*◌, Bool, false, List, get_or, drop, sym, ap, ◌∙◌, arith}
 use Rattle.std.proofs.lemmas.List.{length-drop, get_or-drop, get_or_past}
-use Rattle.track.specs.Circles.{turned}
-use Rattle.track.specs.Shown.{circle_bits}
+use Rattle.track.specs.Shown.{turned_bits}
 use Rattle.std.proofs.lemmas.Bool.{le-ltb}
 use Rattle.track.proofs.Circles.{len, as_bit, bit_added}
 use Rattle.track.proofs.Packing.{begun_step}
-use Rattle.track.proofs.circle.Circle.packed_byte.Goals as goal
-use Rattle.track.proofs.circle.Circle.packed_byte.Goals.{then-i-self, else-i-self}
+use Rattle.track.proofs.turned.Turned.packed_byte.Goals as goal
+use Rattle.track.proofs.turned.Turned.packed_byte.Goals.{then-i-self, else-i-self}
 
 pub loop-j-preserved : goal.loop-j-preserved
 loop-j-preserved c =
-    let a : List Bool = turned c.args.first (circle_bits c.args.self.now) in
+    let a : List Bool = turned_bits c.args.self.now in
     let j : ℕ = c.loop-j.j in
-    let n = len c.args.first c.args.self.now in
+    let n = len c.args.self.now in
     let d = length-drop (c.args.k * 8) a in
     let g : c.if-i-self.bit ≡ get_or (drop (c.args.k * 8) a) j false =
     elim c.if-i-self.branch [
