@@ -1,24 +1,14 @@
-use Rattle.std.proofs.Common.{◌≡◌, ℕ, suc, ◌+◌, ◌-◌, ◌*◌, ◌<◌, ◌≤◌, Bool, false, cond, not, eqb, ltb, List, [], ◌∷◌, ◌++◌, length, get_or, take, drop, set, Some, None, Ok, Err, Option, sym, refl, ap, ◌∙◌, arith}
-use Rattle.std.proofs.lemmas.List.{append_assoc, drop-drop, take_more_set, take_at, get_or_at, take_all}
-use Rattle.std.proofs.lemmas.Bool.{cond-false, le-ltb, eqb-true, not-false, false≢true}
+use Rattle.std.proofs.Common.{◌≡◌, ℕ, zero, suc, ◌+◌, ◌-◌, ◌*◌, ◌<◌, ◌≤◌, Bool, false, cond, not, eqb, ltb, List, [], ◌∷◌, ◌++◌, length, get_or, drop, Some, None, Ok, Err, Option, sym, refl, ap, ◌∙◌, subst, inl, inr, arith}
+use Rattle.std.proofs.lemmas.List.{length-append, drop-drop, take_at, get_or_at, get_or_append_left}
+use Rattle.std.proofs.lemmas.Bool.{cond-false, le-ltb, eqb-true, not-false, false≢true, cases_lt}
+use Rattle.std.specs.Fn.{Mut, Called}
+use Rattle.std.specs.Array.{IsFromFnResultFrom}
 use Rattle.std.specs.Option.{option_eq}
 use Rattle.track.specs.Headers.{byte_at}
 use Rattle.track.specs.Reading.{summed, data_of, is_data}
 use Rattle.gcr.specs.Codes.{bytes_in, if_some}
 use Rattle.gcr.specs.Sums.{xor_all}
 use Rattle.disk.specs.declared.cause.Cause.TheVariants.{BadChecksum, BadCode, NoData, ShortFrame}
-
-abbrev pub prefixed : List ℕ → Option (List ℕ) → Option (List ℕ)
-prefixed xs None = None
-prefixed xs (Some ys) = Some (xs ++ ys)
-
-pub prefixed_none : (o : Option (List ℕ)) → o ≡ prefixed [] o
-prefixed_none None = refl
-prefixed_none (Some ys) = refl
-
-pub prefixed_more : (xs : List ℕ) (b : ℕ) (o : Option (List ℕ)) → prefixed xs (if_some o (λ bs. Some (b ∷ bs))) ≡ prefixed (xs ++ b ∷ []) o
-prefixed_more xs b None = refl
-prefixed_more xs b (Some ys) = ap (λ (l : List ℕ). Some l) (sym (append_assoc xs (b ∷ []) ys))
 
 pub bytes_some : (f : List Bool) (n m i j b : ℕ) → n ≡ suc m → j ≡ i * 10 + 10 → Some b ≡ byte_at f i
     → bytes_in n (drop (i * 10) f) ≡ if_some (bytes_in m (drop j f)) (λ bs. Some (b ∷ bs))
@@ -34,27 +24,54 @@ bytes_none f n m i e h =
     ap (λ (k : ℕ). bytes_in k (drop (i * 10) f)) e
     ∙ ap (λ (o : Option ℕ). if_some o (λ x. if_some (bytes_in m (drop 10 (drop (i * 10) f))) (λ bs. Some (x ∷ bs)))) (sym h)
 
--- the bytes so far, and those to come
-abbrev pub Left : List Bool → ℕ → List ℕ → Type 0
-Left f k xs = bytes_in 257 (drop 10 f) ≡ prefixed (take k xs) (bytes_in (257 - k) (drop ((k + 1) * 10) f))
+-- every byte stands for one
+bytes_all : (f : List Bool) (i : ℕ) (ys : List ℕ) → ((k : ℕ) → k < length ys → Some (get_or ys k 0) ≡ byte_at f (i + k)) → bytes_in (length ys) (drop (i * 10) f) ≡ Some ys
+unfolding bytes_in
+bytes_all f i [] h = refl
+bytes_all f i (y ∷ ys) h =
+    bytes_some f (suc (length ys)) (length ys) i ((i + 1) * 10) y refl (omega arith) (h 0 (omega arith) ∙ ap (byte_at f) (let z : i + 0 ≡ i = omega arith in z))
+    ∙ ap (λ (o : Option (List ℕ)). if_some o (λ bs. Some (y ∷ bs)))
+    (bytes_all f (i + 1) ys (λ k l. h (suc k) (omega arith) ∙ ap (byte_at f) (let z : i + suc k ≡ i + 1 + k = omega arith in z)))
 
-pub left_step : (f : List Bool) (k b : ℕ) (xs : List ℕ) → k < 256 → length xs ≡ 256 → Some b ≡ byte_at f (k + 1) → Left f k xs → Left f (k + 1) (set xs k b)
-left_step f k b xs h n e v =
-    v
-    ∙ ap (prefixed (take k xs)) (bytes_some f (257 - k) (257 - (k + 1)) (k + 1) ((k + 1 + 1) * 10) b (omega arith) (omega arith) e)
-    ∙ prefixed_more (take k xs) b (bytes_in (257 - (k + 1)) (drop ((k + 1 + 1) * 10) f))
-    ∙ ap (λ (l : List ℕ). prefixed l (bytes_in (257 - (k + 1)) (drop ((k + 1 + 1) * 10) f))) (sym (take_more_set xs k b (omega arith)))
-
-pub left_fails : (f : List Bool) (k : ℕ) (xs : List ℕ) → k < 257 → None ≡ byte_at f (k + 1) → Left f k xs → bytes_in 257 (drop 10 f) ≡ None
-left_fails f k xs h e v = v ∙ ap (prefixed (take k xs)) (bytes_none f (257 - k) (256 - k) (k + 1) (omega arith) e)
-
-pub left_done : (f : List Bool) (k s : ℕ) (xs : List ℕ) → k ≡ 256 → length xs ≡ 256 → Some s ≡ byte_at f 257 → Left f k xs → bytes_in 257 (drop 10 f) ≡ Some (xs ++ s ∷ [])
+-- one stands for none
+bytes_miss : (f : List Bool) (n i m : ℕ) → m < n → None ≡ byte_at f (i + m) → bytes_in n (drop (i * 10) f) ≡ None
 unfolding bytes_in byte_at
-left_done f k s xs g n e v =
-    v
-    ∙ ap (λ (i : ℕ). prefixed (take i xs) (bytes_in (257 - i) (drop ((i + 1) * 10) f))) g
-    ∙ ap (prefixed (take 256 xs)) (bytes_some f 1 0 257 2580 s refl refl e)
-    ∙ ap (λ (l : List ℕ). Some (l ++ s ∷ [])) (take_all 256 xs (omega arith))
+bytes_miss f n i zero l e = bytes_none f n (n - 1) i (omega arith) (e ∙ ap (byte_at f) (let z : i + 0 ≡ i = omega arith in z))
+bytes_miss f n i (suc m) l e =
+    ap (λ (k : ℕ). bytes_in k (drop (i * 10) f)) (let z : n ≡ suc (n - 1) = omega arith in z)
+    ∙ ap (λ (o : Option (List ℕ)). if_some (byte_at f i) (λ x. if_some o (λ bs. Some (x ∷ bs))))
+    (ap (bytes_in (n - 1)) (drop-drop 10 (i * 10) f ∙ ap (λ (k : ℕ). drop k f) (let z : i * 10 + 10 ≡ (i + 1) * 10 = omega arith in z))
+    ∙ bytes_miss f (n - 1) (i + 1) m (omega arith) (e ∙ ap (byte_at f) (let z : i + suc m ≡ i + 1 + m = omega arith in z)))
+    ∙ none_then (byte_at f i)
+  where
+    none_then : (o : Option ℕ) → ◌≡◌ {A = Option (List ℕ)} (if_some o (λ x. None)) None
+    none_then None = refl
+    none_then (Some x) = refl
+
+-- a block's bytes, and its checksum
+bytes_read : (f : List Bool) (s : ℕ) (xs : List ℕ) → length xs ≡ 256 → ((k : ℕ) → k < 256 → Some (get_or xs k 0) ≡ byte_at f (k + 1)) → Some s ≡ byte_at f 257 → bytes_in 257 (drop 10 f) ≡ Some (xs ++ s ∷ [])
+bytes_read f s xs n h e =
+    let l = length-append xs (s ∷ []) in
+    ap (λ (k : ℕ). bytes_in k (drop 10 f)) (let z : 257 ≡ length (xs ++ s ∷ []) = omega arith in z)
+    ∙ bytes_all f 1 (xs ++ s ∷ [])
+    (λ k g. elim (cases_lt k 256) [
+      | inl a ↦ ap (λ (x : ℕ). Some x) (get_or_append_left xs (s ∷ []) 0 k (omega arith)) ∙ h k a ∙ ap (byte_at f) (let z : k + 1 ≡ 1 + k = omega arith in z)
+      | inr a ↦ (let z : k ≡ 256 = omega arith in
+          ap (λ (i : ℕ). Some (get_or (xs ++ s ∷ []) i 0)) z ∙ ap (λ (x : ℕ). Some x) (get_or_at xs s [] 0 256 n) ∙ e ∙ ap (λ (i : ℕ). byte_at f (1 + i)) (sym z))
+    ])
+
+-- the codes that a closure read one after the other
+pub codes_read : {F : Type 0} (g : Mut F (ℕ × Unit {0}) (Option ℕ)) (f : List Bool) (p : F) (ys : List (Option ℕ)) (i n : ℕ)
+    → ((k : ℕ) (y : Option ℕ) (q : F) → Called g p (k, tt) y q → (q ≡ p) × (y ≡ byte_at f (k + 1)))
+    → IsFromFnResultFrom g p ys i n → (k : ℕ) → i ≤ k → k < i + n → (d : Option ℕ) → get_or ys k d ≡ byte_at f (k + 1)
+codes_read g f p ys i zero h r k a b d = absurd (omega arith)
+codes_read g f p ys i (suc n) h r k a b d =
+    let s = h i r.1 r.0 r.3 in
+    elim (cases_lt i k) [
+      | inl l ↦ codes_read g f p ys (i + 1) n h (subst (λ (o : _). IsFromFnResultFrom g o ys (i + 1) n) s.0 r.4) k (omega arith) (omega arith) d
+      | inr l ↦ (let z : k ≡ i = omega arith in
+          ap (λ (j : ℕ). get_or ys j d) z ∙ r.2.1 d ∙ s.1 ∙ ap (λ (j : ℕ). byte_at f (j + 1)) (sym z))
+    ]
 
 pub summed_is : (xs : List ℕ) (s : ℕ) → length xs ≡ 256 → summed (Some (xs ++ s ∷ [])) ≡ cond (eqb (xor_all xs) s) (Ok xs) (Err BadChecksum)
 summed_is xs s n =
@@ -73,10 +90,10 @@ data_long f o e h v =
     ∙ ap summed v
 
 -- a code among the 257 bytes stands for none
-pub data_bad : (f : List Bool) (k : ℕ) (xs : List ℕ) → Some 7 ≡ byte_at f 0 → 2600 ≤ length f → k < 257 → None ≡ byte_at f (k + 1) → Left f k xs → data_of f ≡ Err BadCode
-data_bad f k xs m l h e v = data_long f None m l (left_fails f k xs h e v)
+pub data_bad : (f : List Bool) (k : ℕ) → Some 7 ≡ byte_at f 0 → 2600 ≤ length f → k < 257 → None ≡ byte_at f (k + 1) → data_of f ≡ Err BadCode
+data_bad f k m l h e = data_long f None m l (bytes_miss f 257 1 k h (e ∙ ap (byte_at f) (let z : k + 1 ≡ 1 + k = omega arith in z)))
 
 -- all 257 stand for bytes
-pub data_read : (f : List Bool) (k s : ℕ) (xs : List ℕ) → Some 7 ≡ byte_at f 0 → 2600 ≤ length f → k ≡ 256 → length xs ≡ 256 → Some s ≡ byte_at f 257 → Left f k xs
+pub data_read : (f : List Bool) (s : ℕ) (xs : List ℕ) → Some 7 ≡ byte_at f 0 → 2600 ≤ length f → length xs ≡ 256 → ((k : ℕ) → k < 256 → Some (get_or xs k 0) ≡ byte_at f (k + 1)) → Some s ≡ byte_at f 257
     → data_of f ≡ cond (eqb (xor_all xs) s) (Ok xs) (Err BadChecksum)
-data_read f k s xs m l g n e v = data_long f (Some (xs ++ s ∷ [])) m l (left_done f k s xs g n e v) ∙ summed_is xs s n
+data_read f s xs m l n h e = data_long f (Some (xs ++ s ∷ [])) m l (bytes_read f s xs n h e) ∙ summed_is xs s n

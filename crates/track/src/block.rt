@@ -24,11 +24,8 @@ impl<'a> Window<'a> {
         if self.count < DATA_BITS {
             return Err(Cause::ShortFrame);
         }
-        let mut bytes = [0; 256];
-        // By index: behind `iter_mut` the loop's invariant names no byte that was written, and `returns` stays open.
-        for k in 0..256 {
-            bytes[k as usize] = self.byte(k + 1).ok_or(Cause::BadCode)?;
-        }
+        let codes: [Option<u8>; 256] = std::array::from_fn(|k| self.byte(k as u16 + 1));
+        let bytes = codes.try_map(|byte| byte.ok_or(Cause::BadCode))?;
         let sum = self.byte(257).ok_or(Cause::BadCode)?;
         if checksum(&bytes) != sum {
             return Err(Cause::BadChecksum);

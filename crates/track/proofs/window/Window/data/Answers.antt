@@ -1,10 +1,9 @@
-use Rattle.std.proofs.Common.{◌≡◌, ◌+◌, Ok, Err, sym, ap, ◌∙◌, arith, rules}
+use Rattle.std.proofs.Common.{◌≡◌, ℕ, ◌+◌, ◌<◌, get_or, Some, None, Ok, Err, sym, ◌∙◌, arith, rules}
 use Rattle.std.proofs.lemmas.Bool.{cond-true, cond-false, eq-eqb, ne_eqb}
-use Rattle.std.proofs.lemmas.List.{length-set}
 use Rattle.track.specs.Headers.{byte_at}
 use Rattle.track.specs.Reading.{data_of}
 use Rattle.track.specs.Shown.{shown}
-use Rattle.track.proofs.Blocks.{is_seven, left_step, data_bad, data_read}
+use Rattle.track.proofs.Blocks.{is_seven, codes_read, data_bad, data_read}
 use Rattle.track.proofs.Circles.{length_shown}
 use Rattle.track.proofs.window.Window.data.Goals as goal
 use Rattle.disk.specs.declared.cause.Cause.TheVariants.{BadCode, BadChecksum}
@@ -13,29 +12,32 @@ pub returns-in_err-bytes : goal.returns-in_err-bytes
 returns-in_err-bytes c =
     let f = shown c.args.self.now in
     let n = length_shown c.args.self.now in
-    let e : data_of f ≡ Err BadCode = data_bad f c.loop-k.k c.loop-k.bytes (is_seven _ c.if-ne.ensures ∙ c.byte.ensures) (omega arith) (omega arith) (sym c.in_err-bytes.ensures.ok_part ∙ c.byte-in-loop-k.ensures) c.loop-k.invariant.0 in
+    let r = c.from_fn-codes.ensures.items in
+    let w = c.in_err-bytes.ensures.err in
+    let l = w.1.1.0 in
+    let v = r.long in
+    let b : None ≡ w.0 = search rules in
+    let e : data_of f ≡ Err BadCode = data_bad f w.1.0 (is_seven _ c.if-ne.ensures ∙ c.byte.ensures) (omega arith) (omega arith)
+    (b ∙ w.1.1.1 ∙ codes_read _ f _ c.from_fn-codes.result 0 256 (λ k y q a. search rules) r.each w.1.0 (omega arith) (omega arith) w.0) in
     search rules
-
-pub loop-k-preserved : goal.loop-k-preserved
-loop-k-preserved c = (
-  left_step (shown c.args.self.now) c.loop-k.k c.in_ok-bytes.field-0 c.loop-k.bytes (omega arith) c.loop-k.invariant.1 (sym c.in_ok-bytes.ensures.ok_part ∙ c.byte-in-loop-k.ensures) c.loop-k.invariant.0,
-  length-set c.loop-k.bytes c.loop-k.k c.in_ok-bytes.field-0 ∙ c.loop-k.invariant.1,
-)
 
 pub returns-in_err-sum : goal.returns-in_err-sum
 returns-in_err-sum c =
     let f = shown c.args.self.now in
     let n = length_shown c.args.self.now in
-    let g : 257 ≡ c.loop-k.k + 1 = omega arith in
-    let e : data_of f ≡ Err BadCode = data_bad f c.loop-k.k c.loop-k.bytes (is_seven _ c.if-ne.ensures ∙ c.byte.ensures) (omega arith) (omega arith) (sym c.in_err-sum.ensures.ok_part ∙ c.byte-2.ensures ∙ ap (byte_at f) g) c.loop-k.invariant.0 in
+    let e : data_of f ≡ Err BadCode = data_bad f 256 (is_seven _ c.if-ne.ensures ∙ c.byte.ensures) (omega arith) (omega arith) (sym c.in_err-sum.ensures.ok_part ∙ c.byte-2.ensures) in
     search rules
 
 pub returns-then-checksum-sum : goal.returns-then-checksum-sum
 returns-then-checksum-sum c =
     let f = shown c.args.self.now in
     let n = length_shown c.args.self.now in
+    let r = c.from_fn-codes.ensures.items in
     let x = c.checksum.ensures in
-    let e : data_of f ≡ Err BadChecksum = data_read f c.loop-k.k c.in_ok-sum.sum c.loop-k.bytes (is_seven _ c.if-ne.ensures ∙ c.byte.ensures) (omega arith) (omega arith) c.loop-k.invariant.1 (sym c.in_ok-sum.ensures.ok_part ∙ c.byte-2.ensures) c.loop-k.invariant.0
+    let b : (k : ℕ) → k < 256 → Some (get_or c.in_ok-bytes.bytes k 0) ≡ byte_at f (k + 1) = λ k h.
+    (let w = c.in_ok-bytes.ensures.ok.at k None 0 h in let v : Some (get_or c.in_ok-bytes.bytes k 0) ≡ get_or c.from_fn-codes.result k None = search rules in v)
+    ∙ codes_read _ f _ c.from_fn-codes.result 0 256 (λ k y q a. search rules) r.each k (omega arith) (omega arith) None in
+    let e : data_of f ≡ Err BadChecksum = data_read f c.in_ok-sum.sum c.in_ok-bytes.bytes (is_seven _ c.if-ne.ensures ∙ c.byte.ensures) (omega arith) c.in_ok-bytes.ensures.ok.long b (sym c.in_ok-sum.ensures.ok_part ∙ c.byte-2.ensures)
     ∙ cond-false _ _ _ (ne_eqb _ _ (λ q. c.if-checksum-sum.true (x ∙ q))) in
     search rules
 
@@ -43,7 +45,11 @@ pub returns : goal.returns
 returns c =
     let f = shown c.args.self.now in
     let n = length_shown c.args.self.now in
+    let r = c.from_fn-codes.ensures.items in
     let x = c.checksum.ensures in
-    let e : data_of f ≡ Ok c.loop-k.bytes = data_read f c.loop-k.k c.in_ok-sum.sum c.loop-k.bytes (is_seven _ c.if-ne.ensures ∙ c.byte.ensures) (omega arith) (omega arith) c.loop-k.invariant.1 (sym c.in_ok-sum.ensures.ok_part ∙ c.byte-2.ensures) c.loop-k.invariant.0
+    let b : (k : ℕ) → k < 256 → Some (get_or c.in_ok-bytes.bytes k 0) ≡ byte_at f (k + 1) = λ k h.
+    (let w = c.in_ok-bytes.ensures.ok.at k None 0 h in let v : Some (get_or c.in_ok-bytes.bytes k 0) ≡ get_or c.from_fn-codes.result k None = search rules in v)
+    ∙ codes_read _ f _ c.from_fn-codes.result 0 256 (λ k y q a. search rules) r.each k (omega arith) (omega arith) None in
+    let e : data_of f ≡ Ok c.in_ok-bytes.bytes = data_read f c.in_ok-sum.sum c.in_ok-bytes.bytes (is_seven _ c.if-ne.ensures ∙ c.byte.ensures) (omega arith) c.in_ok-bytes.ensures.ok.long b (sym c.in_ok-sum.ensures.ok_part ∙ c.byte-2.ensures)
     ∙ cond-true _ _ _ (eq-eqb _ _ (sym x ∙ c.if-checksum-sum.false)) in
     search rules
