@@ -24,8 +24,8 @@ impl<'a> Window<'a> {
         if self.count < DATA_BITS {
             return Err(Cause::ShortFrame);
         }
-        let codes: [Option<u8>; 256] = std::array::from_fn(|k| self.byte(k as u16 + 1));
-        let bytes = codes.try_map(|byte| byte.ok_or(Cause::BadCode))?;
+        let decoded: [Option<u8>; 256] = std::array::from_fn(|k| self.byte(k as u16 + 1));
+        let bytes = decoded.try_map(|byte| byte.ok_or(Cause::BadCode))?;
         let sum = self.byte(257).ok_or(Cause::BadCode)?;
         if checksum(&bytes) != sum {
             return Err(Cause::BadChecksum);
