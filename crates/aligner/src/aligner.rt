@@ -35,10 +35,7 @@ impl<S: TrackSource> Aligner<S> {
         ensures kept { result.source ≡ source }
         ensures starts { (t : ℕ) → 1 ≤ t → t ≤ 35 → slice_index result.starts t ≡ first_start (S.TrackSource.circle source t) }
     {
-        let mut starts = [0; 36];
-        for track in 1..36 {
-            starts[track as usize] = start_of(&source, track);
-        }
+        let starts = std::array::from_fn(|track| start_of(&source, track as u8));
         Aligner { source, starts }
     }
 
@@ -67,6 +64,7 @@ impl<S: TrackSource> TrackSource for Aligner<S> {
 }
 
 // Place `start` of a circle of `size` bits that is turned to begin at place `first`, as a place of the circle itself. Past the circle's end no place has another name.
+// By cases: `(first + start) % size` would need a bound on the sum, which no parameter gives.
 fn place_of(size: usize, first: usize, start: usize) -> usize
     ensures { result ≡ unturned size first start }
 {
@@ -86,11 +84,10 @@ impl<M: TrackMedium> TrackMedium for Aligner<M> {
         self.source.is_protected()
     }
 
-    fn lay(&mut self, track: u8, start: usize, count: usize, bytes: &[u8]) -> Result<(), Refusal> {
+    fn lay(&mut self, track: u8, start: usize, strip: Strip<'_>) -> Result<(), Refusal> {
         let mut plain = [0; 8192];
         let size = self.source.fetch(track, &mut plain)?;
         let first = self.starts[track as usize] as usize;
-        self.source
-            .lay(track, place_of(size, first, start), count, bytes)
+        self.source.lay(track, place_of(size, first, start), strip)
     }
 }

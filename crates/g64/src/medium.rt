@@ -15,22 +15,16 @@ use laying::lay::*;
 use track::medium::*;
 
 // Lays bits that fit on a track; the file is still an image, and no other track changes.
-fn lay_stored(file: &mut [u8], track: u8, start: usize, count: usize, bytes: &[u8])
+fn lay_stored(file: &mut [u8], track: u8, start: usize, strip: Strip<'_>)
     requires given { given file.old track ≡ true }
-    requires fits { fits (length (circle_on file.old track)) start count (length bytes.now) ≡ true }
+    requires fits { fits (length (circle_on file.old track)) start strip.count (length strip.bytes.now) ≡ true }
     ensures small { Bytes file.new }
     ensures valid { valid file.new ≡ true }
-    ensures circle { (u : ℕ) → circle_on file.new u ≡ (if nat_eq u track then laid_on start (take count (bits_of bytes.now)) (circle_on file.old u) else circle_on file.old u) }
+    ensures circle { (u : ℕ) → circle_on file.new u ≡ (if nat_eq u track then laid_on start (take strip.entry.count (bits_of strip.entry.bytes.now)) (circle_on file.old u) else circle_on file.old u) }
 {
     let begin = offset_of(file, track) + 2;
     let size = length_of(file, track);
-    lay_bits(
-        &mut file[begin..begin + size],
-        8 * size,
-        start,
-        count,
-        bytes,
-    );
+    lay_bits(&mut file[begin..begin + size], 8 * size, start, strip);
     are_bytes(file);
 }
 
@@ -41,10 +35,10 @@ impl TrackMedium for G64 {
         self.protected
     }
 
-    fn lay(&mut self, track: u8, start: usize, count: usize, bytes: &[u8]) -> Result<(), Refusal> {
+    fn lay(&mut self, track: u8, start: usize, strip: Strip<'_>) -> Result<(), Refusal> {
         let size = self.bits_on(track);
-        lay_check(self.protected, size, track, start, count, bytes.len())?;
-        lay_stored(self.image.as_mut_slice(), track, start, count, bytes);
+        lay_check(self.protected, size, track, start, strip)?;
+        lay_stored(self.image.as_mut_slice(), track, start, strip);
         Ok(())
     }
 }

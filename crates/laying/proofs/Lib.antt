@@ -2,6 +2,7 @@ pub mod Fronts
 pub mod Frames
 pub mod Replaces
 pub mod Lays
+pub mod Places
 pub mod Puts
 pub mod Spans
 pub mod Turned

@@ -7,21 +7,26 @@ use Rattle.track.specs.Circles.{turned}
 use Rattle.track.specs.Laying.{laid_on}
 use Rattle.track.proofs.Starts.{turned_over, turned_not}
 use Rattle.track.proofs.Turns.{turned_past}
+use Rattle.laying.proofs.Places.{around, around_less, around_more}
 
 -- a circle with the bits of l put on it from place p on
 abbrev pub put_bits : List Bool → ℕ → List Bool → List Bool
 put_bits c p [] = c
 put_bits c p (b ∷ l) = put_bits (set c p b) (cond (eqb (suc p) (length c)) 0 (suc p)) l
 
-pub put_more : (n : ℕ) (A A' L R : List Bool) (p p' i : ℕ) (b : Bool) → p < n → n ≤ length A → A' ≡ set A p b → b ≡ get_or L i false → i < length L → p' ≡ cond (eqb (suc p) n) 0 (suc p)
-    → put_bits (take n A) p (drop i L) ≡ R → put_bits (take n A') p' (drop (i + 1) L) ≡ R
-put_more n A A' L R p p' i b h g e f l q v =
-    let m : take n A' ≡ set (take n A) p b = ap (take n) e ∙ take-set-lt n A p b h in
-    let w : p' ≡ cond (eqb (suc p) (length (take n A))) 0 (suc p) = q ∙ ap (λ (k : ℕ). cond (eqb (suc p) k) 0 (suc p)) (sym (length-take-le n A g)) in
-    ap (λ (z : List Bool). put_bits z p' (drop (i + 1) L)) m
-    ∙ ap (λ (k : ℕ). put_bits (set (take n A) p b) k (drop (i + 1) L)) w
-    ∙ ap (λ (x : Bool). put_bits (take n A) p (x ∷ drop (i + 1) L)) f
-    ∙ ap (put_bits (take n A) p) (sym (drop_more L i false l))
+pub put_more : (n s k j q : ℕ) (A A' L R : List Bool) (b : Bool) → s < n → n ≤ length A → q ≡ around n s k → A' ≡ set A q b → b ≡ get_or L k false → k < length L → length L ≤ n → j ≡ k + 1
+    → put_bits (take n A) (around n s k) (drop k L) ≡ R → put_bits (take n A') (around n s j) (drop j L) ≡ R
+put_more n s k j q A A' L R b h g x e f l w u v =
+    let p : ℕ = around n s k in
+    let near : p < n = around_less n s k h (omega arith) in
+    let m : take n A' ≡ set (take n A) p b = ap (take n) e ∙ ap (λ (y : ℕ). take n (set A y b)) x ∙ take-set-lt n A p b near in
+    let next : around n s j ≡ cond (eqb (suc p) (length (take n A))) 0 (suc p) =
+    around_more n s k j h (omega arith) u ∙ ap (λ (y : ℕ). cond (eqb (suc p) y) 0 (suc p)) (sym (length-take-le n A g)) in
+    ap (λ (z : List Bool). put_bits z (around n s j) (drop j L)) m
+    ∙ ap (λ (y : ℕ). put_bits (set (take n A) p b) y (drop j L)) next
+    ∙ ap (λ (y : ℕ). put_bits (set (take n A) p b) (cond (eqb (suc p) (length (take n A))) 0 (suc p)) (drop y L)) u
+    ∙ ap (λ (y : Bool). put_bits (take n A) p (y ∷ drop (k + 1) L)) f
+    ∙ ap (put_bits (take n A) p) (sym (drop_more L k false l))
     ∙ v
 
 pub put_spare : (n p : ℕ) (A A' Z : List Bool) (b : Bool) → p < n → A' ≡ set A p b → drop n A ≡ Z → drop n A' ≡ Z

@@ -1,19 +1,16 @@
 // Whether bits can be laid on a track.
-ghost use Rattle.std.specs.Prelude.{◌≡◌};
+ghost use Rattle.std.specs.Prelude.{◌≡◌, length};
 ghost use Rattle.track.specs.Laying.{fits, lay_result};
 
 use disk::cause::*;
-use disk::layer::*;
 use disk::refusal::*;
+use track::medium::Strip;
 
-// Whether `count` bits, of `given` bytes, fit a circle of `size` bits from place `start` on.
-pub(crate) fn span_fits(size: usize, start: usize, count: usize, given: usize) -> bool
-    ensures { result ≡ fits size start count given }
+// Whether a strip fits a circle of `size` bits from place `start` on, and its bytes have its bits.
+pub(crate) fn span_fits(size: usize, start: usize, strip: Strip<'_>) -> bool
+    ensures { result ≡ fits size start strip.entry.count (length strip.entry.bytes.now) }
 {
-    if start >= size || count > size {
-        return false;
-    }
-    count.div_ceil(8) <= given
+    start < size && strip.count <= size && strip.count.div_ceil(8) <= strip.bytes.len()
 }
 
 // What laying answers on a track whose circle has `size` bits.
@@ -22,26 +19,17 @@ pub fn lay_check(
     size: usize,
     track: u8,
     start: usize,
-    count: usize,
-    given: usize,
+    strip: Strip<'_>,
 ) -> Result<(), Refusal>
-    ensures { result ≡ lay_result protected size track start count given }
+    ensures { result ≡ lay_result protected size track start strip.entry.count (length strip.entry.bytes.now) }
 {
-    if track < 1 || track > 35 {
-        return Err(Refusal {
-            cause: Cause::NoSuchBlock,
-            layer: Layer::Track,
-            place: (track, 0),
-        });
+    if !(1..=35).contains(&track) {
+        return Err(Refusal::by_track(Cause::NoSuchBlock, track));
     }
     if protected {
-        return Err(Refusal {
-            cause: Cause::Protected,
-            layer: Layer::Track,
-            place: (track, 0),
-        });
+        return Err(Refusal::by_track(Cause::Protected, track));
     }
-    if !span_fits(size, start, count, given) {
+    if !span_fits(size, start, strip) {
         return Err(Refusal::by_caller(Cause::BadSpan));
     }
     Ok(())

@@ -6,21 +6,18 @@ ghost use Rattle.laying.specs.Laid.{laid_circle};
 
 use crate::check::span_fits;
 use gcr::single::*;
+use track::medium::Strip;
 
-// Puts the first `count` bits of `given` on the circle of the first `bits` bits of `track`, from bit `start` on and round its end. Where they do not fit, nothing changes.
-pub fn lay_bits(track: &mut [u8], bits: usize, start: usize, count: usize, given: &[u8])
-    ensures circle { circle_of bits track.new ≡ laid_circle bits start count given.now track.old }
+// Puts the bits of `strip` on the circle of the first `bits` bits of `track`, from bit `start` on and round its end. Where they do not fit, nothing changes.
+pub fn lay_bits(track: &mut [u8], bits: usize, start: usize, strip: Strip<'_>)
+    ensures circle { circle_of bits track.new ≡ laid_circle bits start strip.entry.count strip.entry.bytes.now track.old }
     ensures spare { drop bits (bits_of track.new) ≡ drop bits (bits_of track.old) }
 {
-    if bits.div_ceil(8) > track.len() || !span_fits(bits, start, count, given.len()) {
+    if bits.div_ceil(8) > track.len() || !span_fits(bits, start, strip) {
         return;
     }
-    let mut place = start;
-    for at in 0..count {
-        set_bit(track, place, bit_at(given, at));
-        place += 1;
-        if place == bits {
-            place = 0;
-        }
+    let places = (start..bits).chain(0..start);
+    for (at, place) in (0..strip.count).zip(places) {
+        set_bit(track, place, bit_at(strip.bytes, at));
     }
 }

@@ -35,11 +35,11 @@ returns c =
     let o : length old ≡ K = length-take-le K (drop A f) (let x = length-drop A f in omega arith) in
     let same : old ≡ stored_on f t = (λ i. take (q i) (drop (p i) f)) ∙ sym (stored_is f t y.sound_file y.least y.most y.placed) in
     let l : length new ≡ length old = c.lay_bits.auto.track in
-    let L : List Bool = take c.args.count (bits_of c.args.bytes.now) in
-    let fit : fits (length (bits_of old)) c.args.start c.args.count (length c.args.bytes.now) ≡ true =
-    ap (λ (x : List ℕ). fits (length (bits_of x)) c.args.start c.args.count (length c.args.bytes.now)) same ∙ c.requires.fits in
+    let L : List Bool = take c.args.strip.count (bits_of c.args.strip.bytes.now) in
+    let fit : fits (length (bits_of old)) c.args.start c.args.strip.count (length c.args.strip.bytes.now) ≡ true =
+    ap (λ (x : List ℕ). fits (length (bits_of x)) c.args.start c.args.strip.count (length c.args.strip.bytes.now)) same ∙ c.requires.fits in
     let e : bits_of new ≡ laid_on c.args.start L (circle_on f t) =
-    laid_whole (8 * c.length_of-size.result) c.args.start c.args.count c.args.bytes.now old new (omega arith) l fit c.lay_bits.ensures.circle
+    laid_whole (8 * c.length_of-size.result) c.args.start c.args.strip.count c.args.strip.bytes.now old new (omega arith) l fit c.lay_bits.ensures.circle
     ∙ ap (λ (x : List ℕ). laid_on c.args.start L (bits_of x)) same in
     record {
       small = c.are_bytes.ensures;

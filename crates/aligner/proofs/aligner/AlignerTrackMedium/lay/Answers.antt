@@ -18,7 +18,7 @@ returns g c =
     let d = fetched_on s t c.in_ok-size.size (length z) m c.in_ok-size.ensures.answer in
     let n = fetched_bits s t c.in_ok-size.size (length z) d m c.in_ok-size.ensures.answer in
     let q = c.place_of.ensures ∙ ap (λ (x : ℕ). unturned x (k t) c.args.start) n in
-    let T = turned_lay G s k t c.args.start c.place_of.result c.args.count c.args.bytes.now q in
+    let T = turned_lay G s k t c.args.start c.place_of.result c.args.strip.count c.args.strip.bytes.now q in
     record {
       answer = c.lay.ensures.answer ∙ T.answer;
       circle = λ u. ap (turned (k u)) (c.lay.ensures.circle u) ∙ T.circle u;

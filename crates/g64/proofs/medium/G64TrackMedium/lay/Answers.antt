@@ -14,12 +14,12 @@ pub lay_stored-requires : goal.lay_stored-requires
 lay_stored-requires c =
     let f : List ℕ = c.args.self.now.image.items in
     let t : ℕ = c.args.track in
-    let m : ℕ = length c.args.bytes.now in
-    let a = accepted c.args.self.now.protected f t c.args.start c.args.count m c.bits_on-size.result c.bits_on-size.ensures c.in_ok-lay_check.ensures in
+    let m : ℕ = length c.args.strip.bytes.now in
+    let a = accepted c.args.self.now.protected f t c.args.start c.args.strip.count m c.bits_on-size.result c.bits_on-size.ensures c.in_ok-lay_check.ensures in
     let v = c.as_mut_slice.ensures.value in
     record {
       given = ap (λ (x : List ℕ). given x t) v ∙ a.has;
-      fits = ap (λ (x : List ℕ). fits (length (circle_on x t)) c.args.start c.args.count m) v ∙ a.fitting;
+      fits = ap (λ (x : List ℕ). fits (length (circle_on x t)) c.args.start c.args.strip.count m) v ∙ a.fitting;
     }
 
 -- the bytes of the Vec, after as many were lent and came back
@@ -31,7 +31,7 @@ invariant_of-self c =
     let f : List ℕ = c.args.self.now.image.items in
     let t : ℕ = c.args.track in
     let same = lent c.args.self.now.image.len c.lay_stored.new.file f c.as_mut_slice.result.now c.lay_stored.auto.file c.as_mut_slice.ensures.len in
-    let a = accepted c.args.self.now.protected f t c.args.start c.args.count (length c.args.bytes.now) c.bits_on-size.result c.bits_on-size.ensures c.in_ok-lay_check.ensures in
+    let a = accepted c.args.self.now.protected f t c.args.start c.args.strip.count (length c.args.strip.bytes.now) c.bits_on-size.result c.bits_on-size.ensures c.in_ok-lay_check.ensures in
     record {
       small = subst Bytes (sym same) c.lay_stored.ensures.small;
       known = c.args.self.now.known ∙ (is_given f t a.has).sound_file ∙ sym (ap valid same ∙ c.lay_stored.ensures.valid);
@@ -43,8 +43,8 @@ returns c =
     let G : Bool = c.args.self.now.protected in
     let t : ℕ = c.args.track in
     let p : ℕ = c.args.start in
-    let n : ℕ = c.args.count in
-    let bytes : List ℕ = c.args.bytes.now in
+    let n : ℕ = c.args.strip.count in
+    let bytes : List ℕ = c.args.strip.bytes.now in
     let L : List Bool = take n (bits_of bytes) in
     let same = lent c.args.self.now.image.len c.lay_stored.new.file f c.as_mut_slice.result.now c.lay_stored.auto.file c.as_mut_slice.ensures.len in
     let a = accepted G f t p n (length bytes) c.bits_on-size.result c.bits_on-size.ensures c.in_ok-lay_check.ensures in
