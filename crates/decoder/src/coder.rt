@@ -15,9 +15,7 @@ fn plain_bytes(block: &[u8; 256]) -> [u8; 260]
 {
     let mut bytes = [0; 260];
     bytes[0] = 7;
-    for i in 0..256 {
-        bytes[i + 1] = block[i];
-    }
+    bytes[1..257].copy_from_slice(block);
     bytes[257] = checksum(block);
     bytes
 }
@@ -28,20 +26,9 @@ pub fn data_block(block: &[u8; 256]) -> [u8; DATA_BYTES]
 {
     let bytes = plain_bytes(block);
     let mut coded = [0; DATA_BYTES];
-    for k in 0..65 {
-        let from = k * 4;
-        let to = k * 5;
-        let five = encode_group([
-            bytes[from],
-            bytes[from + 1],
-            bytes[from + 2],
-            bytes[from + 3],
-        ]);
-        coded[to] = five[0];
-        coded[to + 1] = five[1];
-        coded[to + 2] = five[2];
-        coded[to + 3] = five[3];
-        coded[to + 4] = five[4];
+    // By place: of a slice that was lent as `chunks_exact_mut`, no proof knows what it holds afterwards.
+    for (k, four) in bytes.as_chunks::<4>().0.iter().enumerate() {
+        coded[5 * k..5 * k + 5].copy_from_slice(&encode_group(*four));
     }
     coded
 }

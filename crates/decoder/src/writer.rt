@@ -52,7 +52,10 @@ impl<M: TrackMedium> SectorDevice for Decoder<M> {
         ensures syncs { (u : ℕ) → SameSyncs (M.TrackSource.circle self.old.source u) (M.TrackSource.circle self.new.source u) }
     {
         let start = find_room(&self.source, place)?;
-        self.source
-            .lay(place.0, start, DATA_BITS, &data_block(block))
+        let strip = Strip {
+            bytes: &data_block(block),
+            count: DATA_BITS,
+        };
+        self.source.lay(place.0, start, strip)
     }
 }

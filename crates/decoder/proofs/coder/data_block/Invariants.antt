@@ -5,4 +5,7 @@ use Rattle.gcr.specs.Codes.{ten}
 use Rattle.decoder.proofs.coder.data_block.Given as goal
 
 abbrev pub invariant-loop-k : goal.invariant-loop-k
-invariant-loop-k l = (length l.coded ≡ 325) × (bits_of (take (l.k * 5) l.coded) ≡ flat_map ten (take (l.k * 4) l.bytes))
+invariant-loop-k l = record {
+  long : length l.coded ≡ 325;
+  begun : bits_of (take (5 * l.k) l.coded) ≡ flat_map (flat_map ten) (take l.k l.four-items);
+}

@@ -1,11 +1,11 @@
-use Rattle.std.proofs.Common.{arith}
-use Rattle.decoder.proofs.Groups.{plain_more, plain_done}
+use Rattle.std.proofs.Common.{ℕ, ◌∷◌, List, [], ap}
+use Rattle.std.proofs.lemmas.List.{set_at}
+use Rattle.gcr.specs.Sums.{xor_all}
+use Rattle.decoder.specs.Writing.{data_bytes}
 use Rattle.decoder.proofs.coder.plain_bytes.Goals as goal
 
-pub loop-i-preserved : goal.loop-i-preserved
-loop-i-preserved c = plain_more c.args.block.now c.loop-i.bytes c.loop-i.i c.told-block c.loop-i-test.true c.loop-i.invariant
-
 pub returns : goal.returns
+unfolding data_bytes
 returns c =
-    plain_done c.args.block.now c.loop-i.bytes c.loop-i.i c.checksum.result c.told-block
-    (let h = c.loop-i-test.false in let k = c.loop-i.auto.i-end in omega arith) c.checksum.ensures c.loop-i.invariant
+    rw (c.copy_from_slice.ensures.after, c.checksum.ensures)
+    (ap (λ (z : List ℕ). 7 ∷ z) (set_at c.args.block.now 0 (0 ∷ 0 ∷ []) (xor_all c.args.block.now) 256 c.told-block))
