@@ -26,8 +26,7 @@ impl<S> Decoder<S> {
     pub fn into_source(self) -> S
         ensures { result ≡ self.source }
     {
-        let Decoder { source } = self;
-        source
+        self.source
     }
 }
 
