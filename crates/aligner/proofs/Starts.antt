@@ -1,3 +1,4 @@
+-- The first start of a circle is the least, and a circle turned to it is aligned.
 use Rattle.std.proofs.Common.{◌≡◌, ℕ, zero, suc, ◌+◌, ◌<◌, ◌≤◌, Bool, true, false, cond, List, [], ◌∷◌, length, sym, refl, ap, ◌∙◌, inl, inr, arith}
 use Rattle.std.proofs.lemmas.Bool.{cond_both, cases_lt, cases_eq, true≢false}
 use Rattle.track.specs.Circles.{turned, start}

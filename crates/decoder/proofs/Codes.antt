@@ -1,10 +1,11 @@
 -- The coded bits of a data block: as many as they are, what they begin and end with, and what they read as.
-use Rattle.std.proofs.Common.{◌≡◌, ℕ, zero, suc, ◌+◌, ◌*◌, ◌/◌, ◌%◌, ◌<◌, ◌≤◌, Bool, true, false, not, ◌&&◌, eqb, List, [], ◌∷◌, ◌++◌, length, get_or, drop, Some, None, Ok, fold, Option, sym, refl, ap, ◌∙◌, ⊎_elim, arith}
+use Rattle.std.proofs.Common.{◌≡◌, ℕ, zero, suc, ◌+◌, ◌*◌, ◌/◌, ◌%◌, ◌<◌, ◌≤◌, Bool, true, false, eqb, List, [], ◌∷◌, ◌++◌, length, get_or, drop, Some, None, Ok, fold, Option, sym, refl, ap, ◌∙◌, ⊎_elim, arith}
 use lib.Bits.{bit_xor, xor_lt}
 use Rattle.std.specs.List.{flat_map, AllByRecursion}
-use Rattle.std.proofs.lemmas.List.{append_assoc, length-append, take_at, drop_at}
+use Rattle.std.proofs.lemmas.List.{append_assoc, length-append, take_at, drop_at, get_or_past}
+use Rattle.std.proofs.lemmas.List.Concat.{flat_map-append}
 use Rattle.std.proofs.ByRecursion.{All-push}
-use Rattle.std.proofs.lemmas.Bool.{cases_Bool, true≢false, false≢true, cond-true, cond-false, eqb-true, eq-eqb, cases_lt, and_parts}
+use Rattle.std.proofs.lemmas.Bool.{agree_below_at, cases_Bool, true≢false, false≢true, cond-true, cond-false, eqb-true, eq-eqb, cases_lt}
 use Rattle.gcr.specs.Bits.{bits, value}
 use Rattle.gcr.specs.Codes.{codes, code_of, ten, byte_of, coded, bytes_in, if_some}
 use Rattle.gcr.specs.Sums.{xor_all}
@@ -24,7 +25,7 @@ ones_more m n l h e = ⊎_elim (λ t. absurd (true≢false (sym (ones_fewer m n 
 -- at most five bits before what does not begin with five ones: no ten ones
 no_run : (n : ℕ) (l w : List Bool) → length l + 5 ≤ n → ones 5 w ≡ false → ones n (l ++ w) ≡ false
 no_run n [] w h e = ones_more 5 n w (omega arith) e
-no_run zero (b ∷ l) w h e = absurd (let z : ⊥ = omega arith in z)
+no_run zero (b ∷ l) w h e = absurd (omega arith)
 no_run (suc n) (true ∷ l) w h e = no_run n l w (omega arith) e
 no_run (suc n) (false ∷ l) w h e = refl
 
@@ -34,23 +35,13 @@ five (b ∷ l) w h e =
     cond-false (ones 10 (b ∷ (l ++ w))) [] (b ∷ before (l ++ w)) (no_run 10 (b ∷ l) w (omega arith) e)
     ∙ ap (λ (z : List Bool). b ∷ z) (five l w (omega arith) e)
 
--- a test that holds of each number of a list and of the default
-abbrev each : (ℕ → Bool) → List ℕ → Bool
-each p [] = true
-each p (x ∷ xs) = p x && each p xs
-
-each_getD : (p : ℕ → Bool) (xs : List ℕ) (n d : ℕ) → each p xs ≡ true → p d ≡ true → p (get_or xs n d) ≡ true
-each_getD p [] n d e f = f
-each_getD p (x ∷ xs) zero d e f = (and_parts (p x) (each p xs) e).0
-each_getD p (x ∷ xs) (suc n) d e f = each_getD p xs n d (and_parts (p x) (each p xs) e).1 f
-
 -- no code is five ones
 code_zero : (n : ℕ) → ones 5 (bits 5 (code_of n)) ≡ false
-code_zero n = negated (ones 5 (bits 5 (code_of n))) (each_getD (λ v. not (ones 5 (bits 5 v))) codes n 0 refl refl)
-  where
-    negated : (b : Bool) → not b ≡ true → b ≡ false
-    negated true e = absurd (false≢true e)
-    negated false e = refl
+code_zero n =
+    ⊎_elim
+    (agree_below_at (λ k. ones 5 (bits 5 (code_of k))) (λ _. false) 16 n refl)
+    (λ l. ap (λ (v : ℕ). ones 5 (bits 5 v)) (get_or_past codes n 0 l))
+    (cases_lt n 16)
 
 -- before coded bits a frame goes on
 abbrev Calm : List Bool → List Bool → Type 0
@@ -75,10 +66,6 @@ joined_calm x [] w e = calm_append (ten x) [] w (ten_calm x w e) (refl, e)
 joined_calm x (y ∷ xs) w e =
     let q = joined_calm y xs w e in calm_append (ten x) (flat_map ten (y ∷ xs)) w (ten_calm x (flat_map ten (y ∷ xs) ++ w) q.1) q
 
-pub joined_append : {X A : Type 0} (f : X → List A) (xs ys : List X) → flat_map f (xs ++ ys) ≡ flat_map f xs ++ flat_map f ys
-joined_append f [] ys = refl
-joined_append f (x ∷ xs) ys = ap (λ z. f x ++ z) (joined_append f xs ys) ∙ sym (append_assoc (f x) (flat_map f xs) (flat_map f ys))
-
 -- every byte reads back
 abbrev is_byte : ℕ → Option ℕ → Bool
 is_byte n None = false
@@ -88,18 +75,8 @@ is_byte_some : (n : ℕ) (o : Option ℕ) → is_byte n o ≡ true → o ≡ Som
 is_byte_some n None e = absurd (false≢true e)
 is_byte_some n (Some m) e = ap (λ (k : ℕ). Some k) (eqb-true m n e)
 
-abbrev below : ℕ → (ℕ → Bool) → Bool
-below zero p = true
-below (suc n) p = p n && below n p
-
-below_at : (n : ℕ) (p : ℕ → Bool) (k : ℕ) → below n p ≡ true → k < n → p k ≡ true
-below_at zero p k e h = absurd (let z : ⊥ = omega arith in z)
-below_at (suc n) p k e h =
-    let q = and_parts (p n) (below n p) e in
-    ⊎_elim (λ l. below_at n p k q.1 l) (λ l. ap p (let z : k ≡ n = omega arith in z) ∙ q.0) (cases_lt k n)
-
 byte_back : (b : ℕ) → b < 256 → byte_of (value (ten b)) ≡ Some b
-byte_back b h = is_byte_some b (byte_of (value (ten b))) (below_at 256 (λ n. is_byte n (byte_of (value (ten n)))) b refl h)
+byte_back b h = is_byte_some b (byte_of (value (ten b))) (agree_below_at (λ n. is_byte n (byte_of (value (ten n)))) (λ _. true) 256 b refl h)
 
 length_ten : (b : ℕ) → length (ten b) ≡ 10
 length_ten b = refl
@@ -113,8 +90,8 @@ coded_ten b w h =
 pub bytes_back : (n : ℕ) (bs : List ℕ) (w : List Bool) → length bs ≡ n → AllByRecursion (λ x. x < 256) bs → bytes_in n (flat_map ten bs ++ w) ≡ Some bs
 unfolding bytes_in
 bytes_back zero [] w e h = refl
-bytes_back (suc n) [] w e h = absurd (let z : ⊥ = omega arith in z)
-bytes_back zero (b ∷ bs) w e h = absurd (let z : ⊥ = omega arith in z)
+bytes_back (suc n) [] w e h = absurd (omega arith)
+bytes_back zero (b ∷ bs) w e h = absurd (omega arith)
 bytes_back (suc n) (b ∷ bs) w e h =
     ap (bytes_in (suc n)) (append_assoc (ten b) (flat_map ten bs) w)
     ∙ ap (λ (o : Option ℕ). if_some o (λ x. if_some (bytes_in n (drop 10 (ten b ++ (flat_map ten bs ++ w)))) (λ xs. Some (x ∷ xs)))) (coded_ten b (flat_map ten bs ++ w) h.0)
@@ -154,7 +131,7 @@ lays b n h =
     let Z : List Bool = flat_map ten (0 ∷ 0 ∷ []) in
     let m : length B ≡ 257 = length-append b (S ∷ []) ∙ (let z : length b + 1 ≡ 257 = omega arith in z) in
     let split : data_bits b ≡ flat_map ten (7 ∷ B) ++ Z =
-    ap (λ (z : List ℕ). flat_map ten (7 ∷ z)) (sym (append_assoc b (S ∷ []) (0 ∷ 0 ∷ []))) ∙ joined_append ten (7 ∷ B) (0 ∷ 0 ∷ []) in
+    ap (λ (z : List ℕ). flat_map ten (7 ∷ z)) (sym (append_assoc b (S ∷ []) (0 ∷ 0 ∷ []))) ∙ flat_map-append ten (7 ∷ B) (0 ∷ 0 ∷ []) in
     let parts : (w : List Bool) → data_bits b ++ w ≡ ten 7 ++ (flat_map ten B ++ (Z ++ w)) = λ w.
     ap (λ (z : List Bool). z ++ w) split ∙ append_assoc (flat_map ten (7 ∷ B)) Z w ∙ append_assoc (ten 7) (flat_map ten B) (Z ++ w) in
     let mark : (w : List Bool) → byte_at (data_bits b ++ w) 0 ≡ Some 7 = λ w.

@@ -1,25 +1,22 @@
 -- The frame after a header changes: what is found behind every header.
-use Rattle.std.proofs.Common.{◌≡◌, ℕ, Bool, true, false, cond, ◌||◌, eqb, List, [], ◌∷◌, ◌++◌, Some, None, Option, sym, refl, ap, ◌∙◌, ⊎_elim, arith}
+use Rattle.std.proofs.Common.{◌≡◌, ℕ, Bool, true, false, cond, ◌||◌, eqb, List, [], ◌∷◌, ◌++◌, Some, None, Option, sym, refl, ap, ◌∙◌, ⊎_elim}
 use Rattle.std.proofs.lemmas.List.Elements.{filter-append}
 use Rattle.std.proofs.lemmas.Bool.{true≢false, false≢true, cases_Bool, and_parts, and_from, eqb-true, eq-eqb}
 use Rattle.track.specs.Headers.{header, place_is, sound_head, unsound_head}
 use Rattle.track.specs.Reading.{any, head_or, linked, from_hits, hits, sought, at}
 use Rattle.track.proofs.Turns.{linked_append}
 use Rattle.track.specs.Places.{last_or}
+use Rattle.laying.proofs.Frames.{last_split}
 
 -- a found frame is that of the last pair
 from_last : (K : List (List Bool × List Bool)) (p : List Bool × List Bool) (u : Bool) (g : List Bool) → from_hits (K ++ p ∷ []) u ≡ at g → (K ≡ []) × (p.1 ≡ g)
 from_last [] p u g e = let z : p.1 ≡ g = cc in (refl, z)
-from_last (q ∷ []) p u g e = absurd (let y : ◌≡◌ {A = ℕ} 0 1 = cc in let n : ⊥ = omega arith in n)
-from_last (q ∷ r ∷ K) p u g e = absurd (let y : ◌≡◌ {A = ℕ} 0 1 = cc in let n : ⊥ = omega arith in n)
+from_last (q ∷ []) p u g e = cc
+from_last (q ∷ r ∷ K) p u g e = cc
 
 hits_round : (t s : ℕ) (x h : List Bool) (ms : List (List Bool)) → hits t s (linked x (ms ++ h ∷ [])) ≡ hits t s (linked h ms) ++ cond (sound_head t s (header h)) ((h, x) ∷ []) []
 hits_round t s x h ms =
     ap (hits t s) (linked_append x ms (h ∷ [])) ∙ filter-append (λ p. sound_head t s (header p.0)) (linked h ms) ((h, x) ∷ [])
-
-pub last_split : {X : Type 0} (x : X) (xs : List X) → (ys : List X) × (x ∷ xs ≡ ys ++ last_or x xs ∷ [])
-last_split x [] = ([], refl)
-last_split x (y ∷ xs) = let r = last_split y xs in (x ∷ r.0, ap (λ z. x ∷ z) r.1)
 
 -- what is found behind a sound header that stands last is the first frame
 pub found_first : (g : List Bool) (fs : List (List Bool)) (t s : ℕ) (f : List Bool) → sound_head t s (header (last_or g fs)) ≡ true → sought (g ∷ fs) t s ≡ at f → g ≡ f

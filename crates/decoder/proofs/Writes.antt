@@ -17,23 +17,23 @@ use Rattle.track.proofs.Turns.{sought_turned}
 use Rattle.laying.specs.Laws.{Framed, SameSyncs}
 use Rattle.laying.proofs.Fronts.{first_frame, opened}
 use Rattle.laying.proofs.Frames.{framed, framed_rest, framed_join}
-use Rattle.laying.proofs.Replaces.{replaced, syncs_stay}
+use Rattle.laying.proofs.Replaces.{replaced, syncs_stay, tail_of}
 use Rattle.decoder.specs.Writing.{data_bits}
 use Rattle.decoder.specs.Laws.{Writing}
 use Rattle.decoder.proofs.Codes.{Lays, lays}
 use Rattle.decoder.proofs.Swaps.{found_first, swapped}
 
 room_free : (o : Option (Bool × (ℕ × ℕ))) (n : ℕ) → room o n ≡ Ok tt → (o ≡ None) × (2600 ≤ n)
-room_free (Some h) n e = absurd (let y : ◌≡◌ {A = ℕ} 0 1 = cc in let z : ⊥ = omega arith in z)
+room_free (Some h) n e = cc
 room_free None n e =
     ⊎_elim
-    (λ l. absurd (let z : Err ShortFrame ≡ Ok tt = sym (cond-true (ltb n 2600) (Err ShortFrame) (Ok tt) (lt-ltb n 2600 l)) ∙ e in let y : ◌≡◌ {A = ℕ} 0 1 = cc in let z : ⊥ = omega arith in z))
+    (λ l. let z : Err ShortFrame ≡ Ok tt = sym (cond-true (ltb n 2600) (Err ShortFrame) (Ok tt) (lt-ltb n 2600 l)) ∙ e in cc)
     (λ l. (refl, l))
     (cases_lt n 2600)
 
 -- a free block has its data's frame, which is no header and long enough
 free_frame : (o : Sought) → sought_room o ≡ Ok tt → (f : List Bool) × (o ≡ at f) × (header f ≡ None) × (2600 ≤ length f)
-free_frame (missing n) e = absurd (let y : ◌≡◌ {A = ℕ} 0 1 = cc in let z : ⊥ = omega arith in z)
+free_frame (missing n) e = cc
 free_frame (at f) e = let r = room_free (header f) (length f) e in (f, refl, r.0, r.1)
 
 room_is : (o : Option (Bool × (ℕ × ℕ))) (n : ℕ) → o ≡ None → 2600 ≤ n → room o n ≡ Ok tt
@@ -86,7 +86,7 @@ found c l t s p b L F =
     let R = replaced c x p h q.0 X nx in
     let ed : laid_on p l c ≡ laid_on p x c = ap (turned (length c - p)) (laid_front l g (tens ++ o.0) d o.1 (omega arith)) in
     let c' : List Bool = laid_on p x c in
-    let en : frames (turned p c') ≡ x ∷ fs = R.new_frames ∙ ap (λ (z : List (List Bool)). x ∷ z) (tails_same R.frame g (cut true R.more) fs (sym R.old_frames ∙ eg)) in
+    let en : frames (turned p c') ≡ x ∷ fs = R.new_frames ∙ ap (λ (z : List (List Bool)). x ∷ z) (tail_of R.frame g (cut true R.more) fs (sym R.old_frames ∙ eg)) in
     let hp : p ≤ length c' = (let z = R.size in omega arith) in
     let new : (u v : ℕ) → sought (frames c') u v ≡ sought (x ∷ fs) u v = λ u v. sym (sought_turned p c' hp u v) ∙ ap (λ (z : List (List Bool)). sought z u v) en in
     let W = swapped g x fs t s hg (L.plain r) ws ag in
@@ -101,9 +101,6 @@ found c l t s p b L F =
       syncs = syncs_stay c x p h R;
       fits = (let i = ap length o.1 in let j = length-append g (tens ++ o.0) in let z = length_turned p c in omega arith);
     })
-  where
-    tails_same : {X : Type 0} (a b : X) (xs ys : List X) → a ∷ xs ≡ b ∷ ys → xs ≡ ys
-    tails_same a b xs ys e = cc
 
 bits_lay : (b : List ℕ) → length b ≡ 256 → Bytes b → Lays (data_bits b) b
 bits_lay b n h = lays b n (All-from_get_or (λ x. x < 256) b 0 (λ i _. h i))

@@ -1,7 +1,7 @@
 -- Bits that can stand as a frame.
-use Rattle.std.proofs.Common.{◌≡◌, ℕ, zero, suc, ◌+◌, ◌-◌, ◌<◌, ◌≤◌, Bool, true, false, not, ◌&&◌, List, [], ◌∷◌, ◌++◌, length, get_or, take, drop, sym, refl, ap, ◌∙◌, ⊎_elim, arith}
+use Rattle.std.proofs.Common.{◌≡◌, ℕ, zero, suc, ◌+◌, ◌-◌, ◌<◌, ◌≤◌, Bool, true, false, not, List, [], ◌∷◌, ◌++◌, length, get_or, take, drop, sym, refl, ap, ◌∙◌, ⊎_elim, arith}
 use Rattle.std.proofs.lemmas.List.{append_assoc, length-append, get_or-drop, get_or_at, length-drop, length-take-le}
-use Rattle.std.proofs.lemmas.Bool.{cases_Bool, cases_lt, true≢false, false≢true, cond-false}
+use Rattle.std.proofs.lemmas.Bool.{cases_Bool, cases_lt, and_right, true≢false, false≢true, cond-false}
 use Rattle.track.specs.Circles.{ones, start, before, tens}
 use Rattle.track.specs.Places.{last_or}
 use Rattle.track.proofs.Cuts.{ones_front, ones_false}
@@ -21,7 +21,7 @@ ones_shorter n l w e = ⊎_elim (λ t. absurd (true≢false (sym (ones_longer n 
 
 -- bits that end with a zero are not all ones
 ends_zero : (b : Bool) (l w : List Bool) (n : ℕ) → last_or true (b ∷ l) ≡ false → length (b ∷ l) ≤ n → ones n ((b ∷ l) ++ w) ≡ false
-ends_zero b l w zero e h = absurd (let z : ⊥ = omega arith in z)
+ends_zero b l w zero e h = absurd (omega arith)
 ends_zero false l w (suc n) e h = refl
 ends_zero true [] w (suc n) e h = absurd (true≢false e)
 ends_zero true (c ∷ l) w (suc n) e h = ends_zero c l w n e (omega arith)
@@ -73,17 +73,12 @@ start_zero a v h =
     let n : length A ≡ length a + suc (length v) = length-append a (false ∷ v) in
     let i : ℕ = length a - (length A - 10) in
     let k : (length A - 10) + i ≡ length a = omega arith in
-    ap (λ (b : Bool). not (get_or A 0 false) && b)
+    and_right (not (get_or A 0 false)) _
     (ones_false 10 i (drop (length A - 10) A) (omega arith)
     (get_or-drop (length A - 10) A i false ∙ ap (λ (q : ℕ). get_or A q false) k ∙ get_or_at a false v false (length a) refl))
-    ∙ last (not (get_or A 0 false))
-  where
-    last : (b : Bool) → (b && false) ≡ false
-    last true = refl
-    last false = refl
 
 take_begins : (i : ℕ) (x : List Bool) → get_or x 0 true ≡ false → 0 < i → (v : List Bool) × (take i x ≡ false ∷ v)
-take_begins zero x n h = absurd (let z : ⊥ = omega arith in z)
+take_begins zero x n h = absurd (omega arith)
 take_begins (suc i) [] n h = absurd (true≢false n)
 take_begins (suc i) (true ∷ x) n h = absurd (true≢false n)
 take_begins (suc i) (false ∷ x) n h = (take i x, refl)
@@ -102,17 +97,13 @@ start_inside i x a F h l =
     ap (λ (j : ℕ). ones 10 (drop (j - 10) (take i x))) m
     ∙ sym (ones_front 10 (drop k (take i x)) (drop i x) (omega arith))
     ∙ ap (ones 10) (drop_in_take k i x (omega arith)) ∙ tenless x k F.holds in
-    ap (λ (z : List Bool). not (get_or (a ++ take i x) 0 false) && ones 10 z) (tail_same a (take i x) (omega arith))
-    ∙ ap (λ (b : Bool). not (get_or (a ++ take i x) 0 false) && b) q ∙ last (not (get_or (a ++ take i x) 0 false)))
+    and_right (not (get_or (a ++ take i x) 0 false)) _ (ap (ones 10) (tail_same a (take i x) (omega arith)) ∙ q))
     (cases_lt i 11)
-  where
-    last : (b : Bool) → (b && false) ≡ false
-    last true = refl
-    last false = refl
 
-last_split : (b : Bool) (x : List Bool) → (i : List Bool) × (b ∷ x ≡ i ++ last_or b x ∷ [])
-last_split b [] = ([], refl)
-last_split b (c ∷ x) = let r = last_split c x in (b ∷ r.0, ap (λ (z : List Bool). b ∷ z) r.1)
+-- a list is its last element behind the others
+pub last_split : {X : Type 0} (x : X) (xs : List X) → (ys : List X) × (x ∷ xs ≡ ys ++ last_or x xs ∷ [])
+last_split x [] = ([], refl)
+last_split x (y ∷ xs) = let r = last_split y xs in (x ∷ r.0, ap (λ z. x ∷ z) r.1)
 
 -- nor right behind them
 pub start_behind : (x a v : List Bool) → last_or true x ≡ false → length v < 10 → start (a ++ (x ++ v)) ≡ false

@@ -9,7 +9,7 @@ use Rattle.track.proofs.Cuts.{frames_cut, start_ends}
 pub before_tail : (b : Bool) (l g : List Bool) → before (b ∷ l) ≡ b ∷ g → (ones 10 (b ∷ l) ≡ false) × (before l ≡ g)
 before_tail b l g e =
     ⊎_elim
-    (λ t. absurd (let z : [] ≡ b ∷ g = sym (cond-true (ones 10 (b ∷ l)) [] (b ∷ before l) t) ∙ e in let y : ◌≡◌ {A = ℕ} 0 1 = cc in let n : ⊥ = omega arith in n))
+    (λ t. let z : [] ≡ b ∷ g = sym (cond-true (ones 10 (b ∷ l)) [] (b ∷ before l) t) ∙ e in cc)
     (λ f. let z : b ∷ before l ≡ b ∷ g = sym (cond-false (ones 10 (b ∷ l)) [] (b ∷ before l) f) ∙ e in let y : before l ≡ g = cc in (f, y))
     (cases_Bool (ones 10 (b ∷ l)))
 

@@ -32,7 +32,7 @@ turned_beyond k h w =
     ∙ ap (λ (z : List Bool). drop k w ++ z) (take-append-add h w k)
 
 ones_there : (n i : ℕ) (l : List Bool) → ones n l ≡ true → i < n → get_or l i false ≡ true
-ones_there zero i l e h = absurd (let z : ⊥ = omega arith in z)
+ones_there zero i l e h = absurd (omega arith)
 ones_there (suc n) i [] e h = absurd (false≢true e)
 ones_there (suc n) i (false ∷ l) e h = absurd (false≢true e)
 ones_there (suc n) zero (true ∷ l) e h = refl
@@ -209,7 +209,7 @@ syncs_stay c x p h R =
     (cases_lt q (length c)) in
     record { size = n; begins = λ q. (all q).0; ends = λ q s. (all q).1 s }
 
-tail_of : {X : Type 0} (a b : X) (xs ys : List X) → a ∷ xs ≡ b ∷ ys → xs ≡ ys
+pub tail_of : {X : Type 0} (a b : X) (xs ys : List X) → a ∷ xs ≡ b ∷ ys → xs ≡ ys
 tail_of a b xs ys e = cc
 
 pub replacing : Replacing laid_on
