@@ -9,6 +9,7 @@ use gcr::single::*;
 use track::medium::Strip;
 
 // Puts the bits of `strip` on the circle of the first `bits` bits of `track`, from bit `start` on and round its end. Where they do not fit, nothing changes.
+// `bits` stands beside the bytes, since a circle need not fill its last byte.
 pub fn lay_bits(track: &mut [u8], bits: usize, start: usize, strip: Strip<'_>)
     ensures circle { circle_of bits track.new ≡ laid_circle bits start strip.entry.count strip.entry.bytes.now track.old }
     ensures spare { drop bits (bits_of track.new) ≡ drop bits (bits_of track.old) }
