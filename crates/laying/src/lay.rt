@@ -14,7 +14,7 @@ pub fn lay_bits(track: &mut [u8], bits: usize, start: usize, strip: Strip<'_>)
     ensures circle { circle_of bits track.new ≡ laid_circle bits start strip.entry.count strip.entry.bytes.now track.old }
     ensures spare { drop bits (bits_of track.new) ≡ drop bits (bits_of track.old) }
 {
-    if bits.div_ceil(8) > track.len() || !span_fits(bits, start, strip) {
+    if bits.div_ceil(8) > track.len() || !span_fits(bits, start, strip.count, strip.bytes.len()) {
         return;
     }
     let places = (start..bits).chain(0..start);
