@@ -1,9 +1,10 @@
 -- An image after one block of it was written.
-use Rattle.std.proofs.Common.{◌≡◌, ℕ, ◌+◌, ◌-◌, ◌≤◌, Bool, true, false, cond, eqb, ◌⊎◌, List, ◌++◌, length, take, drop, is_ok, Ok, Err, vec_items, vec_len, Vec, sym, refl, ap, ◌∙◌, subst, inl, inr, arith}
+use Rattle.std.proofs.Common.{◌≡◌, ℕ, ◌+◌, ◌-◌, ◌≤◌, Bool, true, false, cond, ◌&&◌, eqb, ◌⊎◌, List, length, take, drop, Ok, Err, vec_items, vec_len, Vec, sym, refl, ap, ◌∙◌, subst, inl, inr, arith}
 use borrow.Rule.Slice.PartMut.{put_mid}
 use lib.Seq.{paste}
 use Rattle.std.proofs.lemmas.Bool.{false≢true, eqb-true, eq-eqb, and_parts, cases_order, cases_Bool}
-use Rattle.std.proofs.lemmas.List.{length-append, length-take-le, length-drop, drop-take, with_items_is}
+use Rattle.std.proofs.lemmas.List.{drop-take, with_items_is}
+use Rattle.std.proofs.lemmas.List.Edits.{length-paste}
 use Rattle.std.proofs.lemmas.Slice.{put_mid-paste, take-put_mid_below, drop-put_mid, between-put_mid}
 use Rattle.std.proofs.lemmas.Bool.Decides.{nat_tests}
 use Rattle.std.specs.Vec.{with_items}
@@ -13,21 +14,44 @@ use Rattle.disk.specs.declared.refusal.Refusal.{Refusal}
 use Rattle.disk.specs.Refusals.{refusal}
 use Rattle.disk.specs.Geometry.{Place, legal, index_of}
 use Rattle.disk.proofs.Places.{index_within, place_same}
-use Rattle.sector.specs.Source.{Disk, bytes, fault}
+use Rattle.sector.specs.Source.{Disk, bytes, fault, fault_at}
 use Rattle.sector.specs.Device.{Answers, free, barred, answering, allowed, written}
 use Rattle.disk.specs.Geometry.{same_place}
-use Rattle.d64.specs.Image.{offset_of, block_at, answers_of}
+use Rattle.d64.specs.Image.{offset_of, block_at, answers_of, begin_of, writable_at}
 
--- a write is allowed only of a block of a whole image
-pub allowed_whole : (xs : List ℕ) (protected : Bool) (p : Place) → Ok tt ≡ allowed (answers_of xs protected) p → (legal p ≡ true) × (length xs ≡ 174848)
-unfolding allowed answers_of
-allowed_whole xs protected p ok = go (legal p) protected (eqb (length xs) 174848) refl (sym (ap is_ok ok))
+-- what it says that a block may be written
+pub record Writable (xs : List ℕ) (protected : Bool) (p : Place) (at : ℕ) : Type 0 where
+  pub there : legal p ≡ true
+  pub sized : length xs ≡ 174848
+  pub begin : at ≡ offset_of p
+  pub allows : Ok tt ≡ allowed (answers_of xs protected) p
+
+pub is_writable : (xs : List ℕ) (protected : Bool) (p : Place) (at : ℕ) → writable_at xs protected p ≡ Ok at → Writable xs protected p at
+unfolding writable_at begin_of allowed answers_of
+is_writable xs protected p at e =
+    let r = go (legal p) protected (eqb (length xs) 174848) e in
+    record { there = r.0; sized = eqb-true (length xs) 174848 r.1; begin = r.2; allows = r.3 }
   where
-    go : (a b s : Bool) → eqb (length xs) 174848 ≡ s → is_ok (cond a (answering p (cond a (cond b (barred Protected) (cond s free (barred NoHeader))) (barred NoSuchBlock))) (Err (refusal NoSuchBlock Sector p))) ≡ true → (a ≡ true) × (length xs ≡ 174848)
-    go true false true f e = (refl, eqb-true (length xs) 174848 f)
-    go true false false f e = absurd (false≢true e)
-    go true true s f e = absurd (false≢true e)
-    go false b s f e = absurd (false≢true e)
+    go : (a b s : Bool) → cond (b && a) (Err (fault_at Protected p)) (cond a (cond s (Ok (offset_of p)) (Err (fault_at NoHeader p))) (Err (fault_at NoSuchBlock p))) ≡ Ok at
+        → (a ≡ true) × (s ≡ true) × (at ≡ offset_of p) × (Ok tt ≡ cond a (answering p (cond a (cond b (barred Protected) (cond s free (barred NoHeader))) (barred NoSuchBlock))) (Err (refusal NoSuchBlock Sector p)))
+    go true false true f = (refl, refl, cc, refl)
+    go true false false f = cc
+    go true true s f = cc
+    go false true s f = cc
+    go false false s f = cc
+
+-- and that it may not be
+pub not_writable : (xs : List ℕ) (protected : Bool) (p : Place) (e : Refusal) → writable_at xs protected p ≡ Err e → Err e ≡ allowed (answers_of xs protected) p
+unfolding writable_at begin_of allowed answers_of
+not_writable xs protected p e = go (legal p) protected (eqb (length xs) 174848)
+  where
+    go : (a b s : Bool) → cond (b && a) (Err (fault_at Protected p)) (cond a (cond s (Ok (offset_of p)) (Err (fault_at NoHeader p))) (Err (fault_at NoSuchBlock p))) ≡ Err e
+        → Err e ≡ cond a (answering p (cond a (cond b (barred Protected) (cond s free (barred NoHeader))) (barred NoSuchBlock))) (Err (refusal NoSuchBlock Sector p))
+    go true false true f = cc
+    go true false false f = cc
+    go true true s f = cc
+    go false true s f = cc
+    go false false s f = cc
 
 -- a list with 256 bytes of it written over: its other parts are as they were
 module _ (o : ℕ) (xs b : List ℕ) (l : length b ≡ 256) (h : o + 256 ≤ length xs) where
@@ -48,13 +72,7 @@ module _ (o : ℕ) (xs b : List ℕ) (l : length b ≡ 256) (h : o + 256 ≤ len
       ∙ subst (λ (m : ℕ). take m (drop o (put_mid o 256 xs b)) ≡ b) z (between-put_mid o 256 xs b (o + 256) (omega arith) (l ∙ sym z))
 
   pub paste_length : length (paste xs o b 256) ≡ length xs
-  paste_length =
-      let a = length-append (take o xs ++ take 256 b) (drop (o + 256) xs) in
-      let f = length-append (take o xs) (take 256 b) in
-      let t = length-take-le o xs (omega arith) in
-      let m = length-take-le 256 b (omega arith) in
-      let r = length-drop (o + 256) xs in
-      omega arith
+  paste_length = length-paste xs o b 256 h (omega arith)
 
 same_self : (p : Place) → same_place p p ≡ true
 same_self p = grind (arith, nat_tests)
@@ -75,15 +93,9 @@ unfolding block_at
 none_at xs q h = rw h refl
 
 -- an allowed write, block by block
-module _ (xs b : List ℕ) (protected : Bool) (p : Place) (ok : Ok tt ≡ allowed (answers_of xs protected) p) (l : length b ≡ 256) where
-  there : legal p ≡ true
-  there = (allowed_whole xs protected p ok).0
-
-  sized : length xs ≡ 174848
-  sized = (allowed_whole xs protected p ok).1
-
+module _ (xs b : List ℕ) (protected : Bool) (p : Place) (at : ℕ) (w : Writable xs protected p at) (l : length b ≡ 256) where
   pub fitting : offset_of p + 256 ≤ length xs
-  fitting = let w = index_within p there in let s = sized in omega arith
+  fitting = let i = index_within p w.there in let s = w.sized in omega arith
 
   pub same_length : length (paste xs (offset_of p) b 256) ≡ length xs
   same_length = paste_length (offset_of p) xs b l fitting
@@ -91,24 +103,24 @@ module _ (xs b : List ℕ) (protected : Bool) (p : Place) (ok : Ok tt ≡ allowe
   here : (q : Place) → q ≡ p → block_at (paste xs (offset_of p) b 256) q ≡ bytes b
   here q e =
       subst (λ (r : Place). block_at (paste xs (offset_of p) b 256) r ≡ bytes b) (sym e)
-      (read_at (paste xs (offset_of p) b 256) p there (same_length ∙ sized) ∙ ap (λ (f : List ℕ). bytes f) (part_same (offset_of p) xs b l fitting))
+      (read_at (paste xs (offset_of p) b 256) p w.there (same_length ∙ w.sized) ∙ ap (λ (f : List ℕ). bytes f) (part_same (offset_of p) xs b l fitting))
 
   apart : (q : Place) → legal q ≡ true → same_place q p ≡ false → (offset_of q + 256 ≤ offset_of p) ⊎ (offset_of p + 256 ≤ offset_of q)
   apart q h n = elim (cases_order (index_of q) (index_of p)) [
-    | inl e ↦ absurd (false≢true (sym n ∙ ap (λ (r : Place). same_place q r) (sym (place_same q p h there e)) ∙ same_self q))
-    | inr (inl w) ↦ inl (omega arith)
-    | inr (inr w) ↦ inr (omega arith)
+    | inl e ↦ absurd (false≢true (sym n ∙ ap (λ (r : Place). same_place q r) (sym (place_same q p h w.there e)) ∙ same_self q))
+    | inr (inl i) ↦ inl (omega arith)
+    | inr (inr i) ↦ inr (omega arith)
   ]
 
   elsewhere : (q : Place) → same_place q p ≡ false → block_at (paste xs (offset_of p) b 256) q ≡ block_at xs q
   elsewhere q n = elim (cases_Bool (legal q)) [
-    | inl h ↦ read_at (paste xs (offset_of p) b 256) q h (same_length ∙ sized) ∙ ap (λ (f : List ℕ). bytes f) (part_other (offset_of p) xs b l fitting (offset_of q) (apart q h n)) ∙ sym (read_at xs q h sized)
+    | inl h ↦ read_at (paste xs (offset_of p) b 256) q h (same_length ∙ w.sized) ∙ ap (λ (f : List ℕ). bytes f) (part_other (offset_of p) xs b l fitting (offset_of q) (apart q h n)) ∙ sym (read_at xs q h w.sized)
     | inr h ↦ none_at (paste xs (offset_of p) b 256) q h ∙ sym (none_at xs q h)
   ]
 
   pub written_so : (q : Place) → block_at (paste xs (offset_of p) b 256) q ≡ written (answers_of xs protected) (block_at xs) p b q
   unfolding written
-  written_so q = rw (← ok) (go (same_place q p) refl)
+  written_so q = rw (← w.allows) (go (same_place q p) refl)
     where
       go : (s : Bool) → same_place q p ≡ s → block_at (paste xs (offset_of p) b 256) q ≡ cond s (bytes b) (block_at xs q)
       go true e = here q (same_tells q p e)

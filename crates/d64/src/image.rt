@@ -2,12 +2,12 @@
 ghost use Rattle.std.specs.Prelude.{◌≡◌, ◌+◌, ◌≤◌, length, vec_len};
 ghost use Rattle.std.proofs.Math.Seq.{paste};
 ghost use Rattle.disk.specs.Bytes.{Bytes};
-ghost use Rattle.disk.specs.Opening.{opened};
-ghost use Rattle.d64.specs.Image.{answers_of, block_at, checked_length};
+ghost use Rattle.d64.specs.Image.{answers_of, begin_of, block_at, checked_length, writable_at};
 ghost use Rattle.d64.specs.Blocks.{whole_block};
 
 use disk::bytes::*;
 use disk::cause::*;
+use disk::file::*;
 use disk::place::*;
 use disk::refusal::*;
 use sector::device::*;
@@ -23,14 +23,33 @@ pub struct D64 {
     ghost small: { Bytes image.items },
 }
 
-// Whether these bytes are an image.
-pub fn check(image: &[u8]) -> Result<(), Refusal>
-    ensures { result ≡ checked_length (length image.now) }
-{
-    if image.len() != LENGTH {
-        return Err(Refusal::by_image(Cause::BadImage));
+impl ImageFile for D64 {
+    ghost checked = { λ f. checked_length (length f) };
+
+    ghost bytes = { λ d. d.image };
+
+    ghost locked = { λ d. d.protected };
+
+    fn check(file: &[u8]) -> Result<(), Refusal> {
+        if file.len() != LENGTH {
+            return Err(Refusal::by_image(Cause::BadImage));
+        }
+        Ok(())
     }
-    Ok(())
+
+    // Of a wrong length, each block of it has no header.
+    fn new(image: Vec<u8>, protected: bool) -> D64 {
+        are_bytes(image.as_slice());
+        D64 { image, protected }
+    }
+
+    fn is_protected(&self) -> bool {
+        self.protected
+    }
+
+    fn into_bytes(self) -> Vec<u8> {
+        self.image
+    }
 }
 
 // Copies a block over the bytes from `at` on.
@@ -44,36 +63,29 @@ fn put_block(image: &mut Vec<u8>, at: usize, block: &[u8; 256])
 }
 
 impl D64 {
-    // The image of any bytes: of a wrong length, each block of it has no header.
-    pub fn new(image: Vec<u8>, protected: bool) -> D64
-        ensures image { result.image ≡ image }
-        ensures protected { result.protected ≡ protected }
+    // Where a block begins.
+    #[tactic(auto, unfolding(crate::specs::Image::begin_of))]
+    fn begin_of(&self, place: Place) -> Result<usize, Refusal>
+        ensures { result ≡ begin_of self.now.image.items place }
     {
-        are_bytes(image.as_slice());
-        D64 { image, protected }
+        let Some(index) = block_index(place) else {
+            return Err(fault_at(Cause::NoSuchBlock, place));
+        };
+        if self.image.len() != LENGTH {
+            return Err(fault_at(Cause::NoHeader, place));
+        }
+        Ok(256 * index)
     }
 
-    // The check, and then the making.
-    pub fn open(image: Vec<u8>, protected: bool) -> Result<D64, Refusal>
-        ensures { opened (checked_length (length image.items)) (λ d. (d.image ≡ image) × (d.protected ≡ protected)) result }
+    // Where a block begins that may be written.
+    #[tactic(auto, unfolding(crate::specs::Image::writable_at))]
+    fn writable_at(&self, place: Place) -> Result<usize, Refusal>
+        ensures { result ≡ writable_at self.now.image.items self.now.protected place }
     {
-        check(image.as_slice())?;
-        Ok(D64::new(image, protected))
-    }
-
-    // Whether no block may be written.
-    pub fn is_protected(&self) -> bool
-        ensures { result ≡ self.now.protected }
-    {
-        self.protected
-    }
-
-    // Hands the bytes back.
-    pub fn into_bytes(self) -> Vec<u8>
-        ensures { result ≡ self.image }
-    {
-        let D64 { image, .. } = self;
-        image
+        if self.protected && exists(place) {
+            return Err(fault_at(Cause::Protected, place));
+        }
+        self.begin_of(place)
     }
 }
 
@@ -83,13 +95,7 @@ impl SectorSource for D64 {
     ghost whole = { λ s p. whole_block s.image.items s.small p };
 
     fn read(&self, place: Place, block: &mut [u8; 256]) -> Result<(), Refusal> {
-        let Some(index) = block_index(place) else {
-            return Err(fault_at(Cause::NoSuchBlock, place));
-        };
-        if self.image.len() != LENGTH {
-            return Err(fault_at(Cause::NoHeader, place));
-        }
-        let at = 256 * index;
+        let at = self.begin_of(place)?;
         block.copy_from_slice(&self.image.as_slice()[at..at + 256]);
         Ok(())
     }
@@ -99,23 +105,13 @@ impl SectorDevice for D64 {
     ghost answers = { λ s. answers_of s.image.items s.protected };
 
     fn ask(&self, place: Place) -> Result<(), Refusal> {
-        if !exists(place) {
-            return Err(fault_at(Cause::NoSuchBlock, place));
-        }
-        if self.protected {
-            return Err(fault_at(Cause::Protected, place));
-        }
-        if self.image.len() == LENGTH {
-            Ok(())
-        } else {
-            Err(fault_at(Cause::NoHeader, place))
-        }
+        self.writable_at(place)?;
+        Ok(())
     }
 
     fn write(&mut self, place: Place, block: &[u8; 256]) -> Result<(), Refusal> {
-        self.ask(place)?;
-        let index = block_index(place).unwrap();
-        put_block(&mut self.image, 256 * index, block);
+        let at = self.writable_at(place)?;
+        put_block(&mut self.image, at, block);
         Ok(())
     }
 }

@@ -3,6 +3,7 @@
 
 pub mod bytes;
 pub mod cause;
+pub mod file;
 pub mod laws;
 pub mod layer;
 pub mod place;

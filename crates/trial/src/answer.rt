@@ -3,6 +3,7 @@ use crate::crc::*;
 use crate::script::*;
 use d64::image::*;
 use directory::kind::*;
+use disk::file::*;
 use disk::place::*;
 use disk::refusal::*;
 use files::extract::*;

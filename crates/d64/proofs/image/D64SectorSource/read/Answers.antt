@@ -1,16 +1,23 @@
-use Rattle.std.proofs.Common.{rules}
-use Rattle.sector.specs.Source.{loaded}
-use Rattle.d64.specs.Image.{block_at}
+use Rattle.std.proofs.Common.{◌∙◌, sym, arith, rules}
+use Rattle.d64.proofs.Begins.{begins, not_begun}
 use Rattle.d64.proofs.image.D64SectorSource.read.Goals as goal
 
-pub returns-in_default : goal.returns-in_default
-unfolding loaded
-returns-in_default c = search rules
+pub returns-in_err-at : goal.returns-in_err-at
+returns-in_err-at c =
+    let n = not_begun _ _ _ (sym c.begin_of.ensures ∙ c.in_err-at.was) in
+    search (rules, n)
 
-pub returns-then-len-ne-LENGTH : goal.returns-then-len-ne-LENGTH
-unfolding loaded block_at
-returns-then-len-ne-LENGTH c = search rules
+pub overflow_add-at : goal.overflow_add-at
+overflow_add-at c =
+    let b = (begins _ _ _ (sym c.begin_of.ensures ∙ c.in_ok-at.was)).within in
+    omega arith
+
+pub slice_bounds-copy_from_slice-end-2 : goal.slice_bounds-copy_from_slice-end-2
+slice_bounds-copy_from_slice-end-2 c =
+    let b = (begins _ _ _ (sym c.begin_of.ensures ∙ c.in_ok-at.was)).within in
+    omega arith
 
 pub returns : goal.returns
-unfolding loaded block_at
-returns c = search rules
+returns c =
+    let g = (begins _ _ _ (sym c.begin_of.ensures ∙ c.in_ok-at.was)).gives in
+    search (rules, g)
