@@ -7,7 +7,6 @@ use Rattle.track.specs.Fetching.{on_disk}
 use Rattle.g64.specs.Layout.{number16, number32, entry_of, offset_of, length_of, end_of, largest, head, headed, inside, apart, clear, valid}
 use Rattle.g64.specs.Image.{stored_on}
 use Rattle.g64.specs.Stored.{room, sound, sound_valid, stored_is, stored_empty, stored_off}
-use Rattle.g64.specs.Tests.{apart_some}
 use Rattle.g64.specs.Tracks.{each_one, each_same}
 
 -- g is f but for the bytes from a on up to e
@@ -53,6 +52,11 @@ module _ (f g : List ℕ) (a e : ℕ) (o : Kept f g a e) where
       ap (λ (j : ℕ). take n (drop j g)) (sym i)
       ∙ ap (take n) (sym (drop-drop (b - e) e g) ∙ ap (drop (b - e)) o.back ∙ drop-drop (b - e) e f)
       ∙ ap (λ (j : ℕ). take n (drop j f)) i
+
+-- two tracks that have bits
+apart_some : (f : List ℕ) (t u : ℕ) → (offset_of f t ≡ 0 → ⊥) → (offset_of f u ≡ 0 → ⊥) → apart f t u ≡ (leb (end_of f t) (offset_of f u) || leb (end_of f u) (offset_of f t))
+unfolding apart
+apart_some f t u y z = rw (ne_eqb (offset_of f t) 0 y, ne_eqb (offset_of f u) 0 z)
 
 one_way : (f : List ℕ) (t u : ℕ) → apart f t u ≡ true → (offset_of f t ≡ 0 → ⊥) → (offset_of f u ≡ 0 → ⊥) → (end_of f t ≤ offset_of f u) ⊎ (end_of f u ≤ offset_of f t)
 one_way f t u h y z = elim (or_cases (leb (end_of f t) (offset_of f u)) (leb (end_of f u) (offset_of f t)) (sym (apart_some f t u y z) ∙ h)) [

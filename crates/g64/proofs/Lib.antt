@@ -1,2 +1,4 @@
 pub mod Kept
 pub mod Written
+pub mod Looks
+pub mod Extents

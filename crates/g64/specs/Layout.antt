@@ -1,6 +1,7 @@
 -- The layout of a G64 file: a head, a table of offsets, and the tracks.
-use Rattle.std.specs.Prelude.{ℕ, zero, suc, ◌+◌, ◌-◌, ◌*◌, Bool, true, ◌&&◌, ◌||◌, List, [], ◌∷◌, ◌++◌, length, take, codes, ◌==◌, nat_le, slice_index}
+use Rattle.std.specs.Prelude.{ℕ, zero, suc, ◌+◌, ◌-◌, ◌*◌, Bool, true, cond, ◌&&◌, ◌||◌, List, [], ◌∷◌, ◌++◌, length, take, codes, Some, None, Option, ◌==◌, nat_le, slice_index}
 use Rattle.std.specs.Str.{bytes_eq}
+use Rattle.std.specs.declared.ops.Range.{Range}
 
 -- two bytes as a number, low byte first; past the file's end stand zeros
 unfoldable pub number16 : List ℕ → ℕ → ℕ
@@ -25,6 +26,10 @@ length_of f t = number16 f (offset_of f t)
 -- the byte after it
 abbrev pub end_of : List ℕ → ℕ → ℕ
 end_of f t = offset_of f t + 2 + length_of f t
+
+-- where it lies, with its two bytes of length; nowhere if it has no bits
+abbrev pub extent_of : List ℕ → ℕ → Option (Range ℕ)
+extent_of f t = cond (offset_of f t == 0) None (Some (record { start = offset_of f t; end = end_of f t }))
 
 -- the largest size of a track, as the head has it
 abbrev pub largest : List ℕ → ℕ

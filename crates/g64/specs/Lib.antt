@@ -1,5 +1,4 @@
 pub mod Layout
 pub mod Image
 pub mod Stored
-pub mod Tests
 pub mod Tracks

@@ -1,7 +1,6 @@
 -- The bytes of a track: how many they are, and that packing their bits gives them back.
 use Rattle.std.specs.Prelude.{◌≡◌, ℕ, suc, ◌+◌, ◌<◌, ◌≤◌, Bool, true, false, cond, not, ◌&&◌, List, [], ◌∷◌, ◌++◌, length, take, drop, ◌==◌, nat_eq, nat_le, refl}
 use Rattle.std.proofs.Common.{arith, sym, ap, subst, ◌∙◌, inl, inr}
-use borrow.Rule.Slice.PartMut.{post_of}
 use Rattle.std.proofs.lemmas.List.{length-take, get_or_past}
 use Rattle.std.proofs.lemmas.Bool.{and_parts, or_cases, and_from, and_left, and_right, not_from_true, not_from_false, leb-true, le-leb, eq-eqb, not-true, true≢false}
 use Rattle.gcr.specs.Bits.{bits_of}
@@ -12,7 +11,6 @@ use Rattle.g64.specs.Layout.{offset_of, length_of, end_of, largest, headed, insi
 use Rattle.disk.specs.Bytes.{Bytes}
 use Rattle.disk.proofs.ByteLists.{take_bytes, drop_bytes}
 use Rattle.g64.specs.Image.{given, stored_on, circle_on}
-use Rattle.g64.specs.Tests.{valid_rest}
 use Rattle.g64.specs.Tracks.{each_one}
 
 -- what an image says of a track that has bits
@@ -51,7 +49,12 @@ sound f v =
     record { long = leb-true 684 (length f) p.0; begins = q.0; bounded = leb-true (largest f) 7928 r.0; within = s.0; clears = s.1 }
 
 pub sound_valid : (f : List ℕ) → Sound f → valid f ≡ true
-sound_valid f s = valid_rest f s.long s.begins s.bounded ∙ and_from (all_inside f) (all_clear f) s.within s.clears
+unfolding valid
+sound_valid f s =
+    and_from (nat_le 684 (length f)) (headed f && (nat_le (largest f) 7928 && (all_inside f && all_clear f))) (le-leb 684 (length f) s.long)
+    (and_from (headed f) (nat_le (largest f) 7928 && (all_inside f && all_clear f)) s.begins
+    (and_from (nat_le (largest f) 7928) (all_inside f && all_clear f) (le-leb (largest f) 7928 s.bounded)
+    (and_from (all_inside f) (all_clear f) s.within s.clears)))
 
 pub room : (f : List ℕ) (t : ℕ) → valid f ≡ true → 1 ≤ t → t ≤ 35 → (offset_of f t == 0) ≡ false → Room f t
 room f t v l u z =
@@ -141,5 +144,5 @@ stored_bytes f t h = elim (given f t) as (λ b. Bytes (cond b (take (length_of f
 ]
 
 -- a buffer whose begin was written over
-pub copied_is : (n : ℕ) (new old last : List ℕ) → last ≡ new → n ≡ length new → last ++ post_of 0 n old ≡ laid new old
+pub copied_is : (n : ℕ) (new old last : List ℕ) → last ≡ new → n ≡ length new → last ++ drop n old ≡ laid new old
 copied_is n new old last e l = λ i. e i ++ drop (l i) old

@@ -1,20 +1,8 @@
--- One step of a look at each track, and what it says of one of them.
-use Rattle.std.specs.Prelude.{◌≡◌, ℕ, zero, suc, ◌+◌, ◌-◌, ◌<◌, ◌≤◌, Bool, true, ◌&&◌, refl}
+-- What a look at each track says of one of them.
+use Rattle.std.specs.Prelude.{◌≡◌, ℕ, zero, suc, ◌+◌, ◌<◌, ◌≤◌, Bool, true, ◌&&◌, refl}
 use Rattle.std.proofs.Common.{arith, sym, ap, ◌∙◌, inl, inr}
 use Rattle.std.proofs.lemmas.Bool.{and_parts, cases_eq}
 use Rattle.g64.specs.Layout.{each}
-
-pub each_more : (test : ℕ → Bool) (n k : ℕ) → k < n → each test (n - k) k ≡ (test k && each test (n - (k + 1)) (k + 1))
-unfolding each
-each_more test n k h =
-    let e : n - k ≡ suc (n - (k + 1)) = omega arith in
-    ap (λ (m : ℕ). each test m k) e
-
-pub each_end : (test : ℕ → Bool) (n k : ℕ) → n ≤ k → each test (n - k) k ≡ true
-unfolding each
-each_end test n k h =
-    let e : n - k ≡ 0 = omega arith in
-    ap (λ (m : ℕ). each test m k) e
 
 -- where all of them pass, each does
 pub each_one : (test : ℕ → Bool) (n k t : ℕ) → each test n k ≡ true → k ≤ t → t < k + n → test t ≡ true

@@ -1,10 +1,12 @@
 // Where the tracks lie in a file, and whether it is an image.
 ghost use Rattle.std.specs.Prelude.{◌≡◌, ◌<◌, ◌≤◌};
-ghost use Rattle.g64.specs.Layout.{offset_of, length_of, headed, inside, apart, all_inside, clear, all_clear, valid};
+ghost use Rattle.g64.specs.Layout.{offset_of, length_of, extent_of, headed, inside, apart, all_inside, clear, all_clear, valid};
 
 use crate::number::*;
+use std::ops::Range;
 
-// Where a track begins; 0 if it has no bits.
+// What the table says of where a track begins; 0 stands for a track that has no bits.
+#[tactic(auto, unfolding(crate::specs::Layout::offset_of))]
 pub(crate) fn offset_of(file: &[u8], track: u8) -> usize
     requires { 1 ≤ track }
     ensures value { result ≡ offset_of file.now track }
@@ -14,12 +16,24 @@ pub(crate) fn offset_of(file: &[u8], track: u8) -> usize
 }
 
 // How many bytes a track has, its two bytes of length not counted.
+#[tactic(auto, unfolding(crate::specs::Layout::length_of))]
 pub(crate) fn length_of(file: &[u8], track: u8) -> usize
     requires { 1 ≤ track }
     ensures value { result ≡ length_of file.now track }
     ensures small { result < 65536 }
 {
     read16(file, offset_of(file, track))
+}
+
+// Where a track that has bits lies, its two bytes of length first.
+pub(crate) fn extent_of(file: &[u8], track: u8) -> Option<Range<usize>>
+    requires { 1 ≤ track }
+    ensures { result ≡ extent_of file.now track }
+{
+    match offset_of(file, track) {
+        0 => None,
+        begin => Some(begin..begin + 2 + length_of(file, track)),
+    }
 }
 
 // Whether the file begins as an image does: the name, version 0, 84 entries.
@@ -30,49 +44,36 @@ fn has_head(file: &[u8]) -> bool
 }
 
 // Whether a track, if it has bits, keeps to the room after the tables and to the largest size.
+#[tactic(auto, unfolding(crate::specs::Layout::inside))]
 fn is_inside(file: &[u8], track: u8) -> bool
     requires { 1 ≤ track }
     ensures { result ≡ inside file.now track }
 {
-    let offset = offset_of(file, track);
-    let bytes = length_of(file, track);
-    let largest = read16(file, 10);
-    if offset == 0 {
+    let Some(extent) = extent_of(file, track) else {
         return true;
-    }
-    if offset < 684 || bytes > largest {
-        return false;
-    }
-    offset + 2 + bytes <= file.len()
+    };
+    let largest = read16(file, 10);
+    684 <= extent.start && extent.len() <= 2 + largest && extent.end <= file.len()
 }
 
 // Whether two tracks, if both have bits, share no byte.
+#[tactic(auto, unfolding(crate::specs::Layout::apart))]
 fn are_apart(file: &[u8], track: u8, other: u8) -> bool
     requires track { 1 ≤ track }
     requires other { 1 ≤ other }
     ensures { result ≡ apart file.now track other }
 {
-    let (a, b) = (offset_of(file, track), offset_of(file, other));
-    let (a_end, b_end) = (
-        a + 2 + length_of(file, track),
-        b + 2 + length_of(file, other),
-    );
-    if a == 0 || b == 0 {
+    let (Some(a), Some(b)) = (extent_of(file, track), extent_of(file, other)) else {
         return true;
-    }
-    a_end <= b || b_end <= a
+    };
+    a.end <= b.start || b.end <= a.start
 }
 
 // Whether all tracks keep to that room.
 fn are_inside(file: &[u8]) -> bool
     ensures { result ≡ all_inside file.now }
 {
-    for track in 1..36 {
-        if !is_inside(file, track) {
-            return false;
-        }
-    }
-    true
+    (1..36).all(|track| is_inside(file, track))
 }
 
 // Whether no later track shares a byte with this one.
@@ -81,35 +82,24 @@ fn is_clear(file: &[u8], track: u8) -> bool
     requires most { track ≤ 35 }
     ensures { result ≡ clear file.now track }
 {
-    for other in track + 1..36 {
-        if !are_apart(file, track, other) {
-            return false;
-        }
-    }
-    true
+    (track + 1..36).all(|other| are_apart(file, track, other))
 }
 
 // Whether no two tracks share a byte.
 fn are_clear(file: &[u8]) -> bool
     ensures { result ≡ all_clear file.now }
 {
-    for track in 1..36 {
-        if !is_clear(file, track) {
-            return false;
-        }
-    }
-    true
+    (1..36).all(|track| is_clear(file, track))
 }
 
 // Whether the file is an image.
+#[tactic(auto, unfolding(crate::specs::Layout::valid))]
 pub(crate) fn is_valid(file: &[u8]) -> bool
     ensures { result ≡ valid file.now }
 {
-    if file.len() < 684 || !has_head(file) {
-        return false;
-    }
-    if read16(file, 10) > 7928 {
-        return false;
-    }
-    are_inside(file) && are_clear(file)
+    file.len() >= 684
+        && has_head(file)
+        && read16(file, 10) <= 7928
+        && are_inside(file)
+        && are_clear(file)
 }

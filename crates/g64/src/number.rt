@@ -6,26 +6,26 @@ ghost use Rattle.g64.specs.Layout.{number16, number32};
 fn byte_at(file: &[u8], at: usize) -> u8
     ensures { result ≡ slice_index file.now at }
 {
-    if at >= file.len() {
-        return 0;
-    }
-    file[at]
+    file.get(at).copied().unwrap_or(0)
 }
 
 // Two bytes as a number.
+#[tactic(auto, unfolding(crate::specs::Layout::number16))]
 pub(crate) fn read16(file: &[u8], at: usize) -> usize
     requires { at < 2 ^ 33 }
     ensures value { result ≡ number16 file.now at }
     ensures small { result < 65536 }
 {
-    byte_at(file, at) as usize + 256 * byte_at(file, at + 1) as usize
+    u16::from_le_bytes([byte_at(file, at), byte_at(file, at + 1)]) as usize
 }
 
 // Four bytes as a number.
+#[tactic(auto, unfolding(crate::specs::Layout::number16, crate::specs::Layout::number32))]
 pub(crate) fn read32(file: &[u8], at: usize) -> usize
     requires { at < 2 ^ 32 }
     ensures value { result ≡ number32 file.now at }
     ensures small { result < 4294967296 }
 {
-    read16(file, at) + 65536 * read16(file, at + 2)
+    let bytes = [at, at + 1, at + 2, at + 3].map(|k| byte_at(file, k));
+    u32::from_le_bytes(bytes) as usize
 }

@@ -1,19 +1,7 @@
-use Rattle.std.proofs.Common.{◌≡◌, true, false, sym, ◌∙◌, arith}
+use Rattle.std.proofs.Common.{refl, rules}
 use Rattle.g64.specs.Layout.{inside}
-use Rattle.g64.specs.Tracks.{each_more, each_end}
+use Rattle.g64.proofs.Looks.{looked}
 use Rattle.g64.proofs.layout.are_inside.Goals as goal
 
-pub returns-then-not-is_inside : goal.returns-then-not-is_inside
-returns-then-not-is_inside c =
-    let t = each_more (inside c.args.file.now) 36 c.loop-track.track (omega arith) in
-    let e : inside c.args.file.now c.loop-track.track ≡ false = sym c.if-not-is_inside.ensures in
-    sym (rw e at t) ∙ c.loop-track.invariant
-
-pub loop-track-preserved : goal.loop-track-preserved
-loop-track-preserved c =
-    let t = each_more (inside c.args.file.now) 36 c.loop-track.track (omega arith) in
-    let e : inside c.args.file.now c.loop-track.track ≡ true = sym c.if-not-is_inside.ensures in
-    sym (rw e at t) ∙ c.loop-track.invariant
-
 pub returns : goal.returns
-returns c = sym (each_end (inside c.args.file.now) 36 c.loop-track.track (omega arith)) ∙ c.loop-track.invariant
+returns c = looked _ _ (inside c.args.file.now) 35 1 c.all.result c.all.ensures.ran (λ x b q k. search rules) refl
