@@ -1,6 +1,7 @@
 -- A capture read through the aligner gives the blocks of its circles, and writes them as they allow.
-use Rattle.std.proofs.Common.{◌≡◌, ℕ, Bool, true, cond, List, length, get_or, Ok, Err, vec_items, Result, sym, refl, ap, ◌∙◌, inl, inr, arith}
+use Rattle.std.proofs.Common.{◌≡◌, ℕ, Bool, true, false, cond, List, length, get_or, Ok, Err, IfOk, vec_items, Result, sym, refl, ap, ◌∙◌, subst, inl, inr, arith}
 use Rattle.std.proofs.lemmas.Bool.{cases_lt, cond-true}
+use Rattle.std.specs.Global.{Vec}
 use Rattle.disk.specs.declared.cause.Cause.TheVariants.{NoSuchBlock, Protected, BadImage}
 use Rattle.disk.specs.declared.layer.Layer.TheVariants.{Sector}
 use Rattle.disk.specs.declared.refusal.Refusal.{Refusal}
@@ -19,10 +20,10 @@ use Rattle.decoder.specs.declared.decoder.Decoder.{Decoder}
 use Rattle.aligner.specs.declared.aligner.Aligner.{Aligner}
 use Rattle.g64.specs.declared.image.G64.{G64}
 use Rattle.g64.specs.Image.{circle_on, checked}
-use Rattle.d64.specs.Image.{block_at, answers_of, checked_length}
+use Rattle.d64.specs.Image.{block_at, answers_of}
 use Rattle.image.specs.declared.image.Image.TheVariants.{Capture}
 use Rattle.image.specs.Kinds.{is_capture}
-use Rattle.image.specs.Images.{contents_of, disk_of, checked_as, handed_back, Gives}
+use Rattle.image.specs.Images.{contents_of, disk_of, kept_as, Gives}
 
 -- what a circle holds does not hang on where it begins
 found_turned : (k : ℕ) (c : List Bool) (t s : ℕ) → sought (frames (turned k c)) t s ≡ sought (frames c) t s
@@ -56,12 +57,18 @@ captured f protected c k i g =
           ∙ ap (λ (x : Answers). allowed x p) (sym (cond-true (is_capture f) (decoder_answers protected (circle_on f)) (answers_of f protected) k));
     }
 
--- a capture that hands its file back
-pub returned : (c : Decoder (Aligner G64)) (f : List ℕ) → vec_items c.source.source.image ≡ f → is_capture f ≡ true → checked f ≡ Ok tt → Ok f ≡ handed_back (Capture c)
-returned c f i k e =
-    sym (ap (λ (g : List ℕ). cond (is_capture g) (and_then (checked_as g) (λ _. Ok g)) (Err (by_image BadImage))) i
-    ∙ cond-true (is_capture f) _ _ k
-    ∙ ap (λ (r : Result Unit Refusal). and_then r (λ _. Ok f)) (cond-true (is_capture f) (checked f) (checked_length (length f)) k ∙ e))
-
-pub same_again : (c : Decoder (Aligner G64)) (f : List ℕ) → vec_items c.source.source.image ≡ f → is_capture f ≡ true → (p : Place) → loaded (disk_of f) p ≡ loaded (contents_of (Capture c)) p
+same_again : (c : Decoder (Aligner G64)) (f : List ℕ) → vec_items c.source.source.image ≡ f → is_capture f ≡ true → (p : Place) → loaded (disk_of f) p ≡ loaded (contents_of (Capture c)) p
 same_again c f i k p = sym ((captured f c.source.source.protected c k i refl).blocks p)
+
+-- the file gives the same blocks again
+abbrev pub Again : Decoder (Aligner G64) → Vec ℕ → Type 0
+Again c v = (p : Place) → loaded (disk_of (vec_items v)) p ≡ loaded (contents_of (Capture c)) p
+
+-- a capture that hands its file back
+pub returned : (c : Decoder (Aligner G64)) (v : Vec ℕ) (r : Result (Vec ℕ) Refusal) → c.source.source.image ≡ v → r ≡ kept_as true checked v → IfOk r (Again c)
+returned c v r i e = subst (λ (x : Result (Vec ℕ) Refusal). IfOk x (Again c)) (sym e) (go (is_capture (vec_items v)) refl (checked (vec_items v)))
+  where
+    go : (k : Bool) → is_capture (vec_items v) ≡ k → (s : Result Unit Refusal) → IfOk (cond k (and_then s (λ _. Ok v)) (Err (by_image BadImage))) (Again c)
+    go true k (Ok x) = same_again c (vec_items v) (ap vec_items i) k
+    go true k (Err x) = tt
+    go false k s = tt

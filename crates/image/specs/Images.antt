@@ -1,5 +1,6 @@
 -- What an image file gives, by its kind.
 use Rattle.std.specs.Prelude.{◌≡◌, ℕ, Bool, cond, not, List, length, Ok, Err, vec_items, Result, slice_index}
+use Rattle.std.specs.Global.{Vec}
 use Rattle.disk.specs.declared.cause.Cause.TheVariants.{BadImage}
 use Rattle.disk.specs.declared.refusal.Refusal.{Refusal}
 use Rattle.disk.specs.Geometry.{Place}
@@ -64,3 +65,7 @@ of_kind (Capture c) capture = capture
 -- the file that an image hands back: one that opens again as an image of its kind
 abbrev pub handed_back : Image → Result (List ℕ) Refusal
 handed_back i = cond (of_kind i (is_capture (file_of i))) (and_then (checked_as (file_of i)) (λ _. Ok (file_of i))) (Err (by_image BadImage))
+
+-- a file, where it is taken for a capture or not as is wanted and passes a check
+abbrev pub kept_as : Bool → (List ℕ → Result Unit Refusal) → Vec ℕ → Result (Vec ℕ) Refusal
+kept_as capture check v = cond (cond capture (is_capture (vec_items v)) (not (is_capture (vec_items v)))) (and_then (check (vec_items v)) (λ _. Ok v)) (Err (by_image BadImage))

@@ -5,7 +5,7 @@ ghost use Rattle.std.specs.Result.{result_map_both};
 ghost use Rattle.disk.specs.Geometry.{Place as Position};
 ghost use Rattle.disk.specs.Opening.{opened};
 ghost use Rattle.sector.specs.Source.{loaded};
-ghost use Rattle.image.specs.Images.{contents_of, answers_as, disk_of, checked_as, opened_as, Gives, handed_back};
+ghost use Rattle.image.specs.Images.{contents_of, answers_as, disk_of, checked_as, opened_as, Gives, handed_back, kept_as};
 ghost use Rattle.image.specs.declared.image.Image.TheVariants.{Blocks, Capture};
 ghost use Rattle.d64.specs.Blocks.{whole_block};
 ghost use Rattle.decoder.specs.Wholes.{decoded_whole};
@@ -14,6 +14,7 @@ use aligner::aligner::Aligner;
 use d64::image::D64;
 use decoder::decoder::Decoder;
 use disk::cause::*;
+use disk::file::*;
 use disk::place::*;
 use disk::refusal::*;
 use g64::image::G64;
@@ -23,6 +24,7 @@ use track::medium::*;
 use track::source::*;
 
 // Blocks in place order, or a capture of track bits, read through the aligner.
+// The kinds are these two and no caller adds one, so each method matches; a `dyn` value in their place would stand on the heap.
 #[derive(Drop)]
 pub enum Image {
     Blocks(D64),
@@ -33,11 +35,19 @@ pub enum Image {
 pub fn is_capture(file: &[u8]) -> bool
     ensures { result ≡ is_capture file.now }
 {
-    if file.len() < 8 {
-        return false;
+    file.starts_with(b"GCR-1541")
+}
+
+// The file of an image, where its bytes are taken for an image of its own kind: a capture or not.
+fn hand_back<F: ImageFile>(image: F, capture: bool) -> Result<Vec<u8>, Refusal>
+    ensures { result ≡ kept_as capture F.checked (F.bytes image) }
+{
+    let file = image.into_bytes();
+    if is_capture(file.as_slice()) != capture {
+        return Err(Refusal::by_image(Cause::BadImage));
     }
-    let head = &file[0..8];
-    head == b"GCR-1541".as_slice()
+    F::check(file.as_slice())?;
+    Ok(file)
 }
 
 impl Image {
@@ -60,22 +70,8 @@ impl Image {
         ensures again { IfOk result (λ v. (p : Position) → loaded (disk_of v.items) p ≡ loaded (contents_of self) p) }
     {
         match self {
-            Image::Blocks(blocks) => {
-                let file = blocks.into_bytes();
-                if is_capture(file.as_slice()) {
-                    return Err(Refusal::by_image(Cause::BadImage));
-                }
-                d64::image::check(file.as_slice())?;
-                Ok(file)
-            }
-            Image::Capture(capture) => {
-                let file = capture.into_source().into_source().into_bytes();
-                if !is_capture(file.as_slice()) {
-                    return Err(Refusal::by_image(Cause::BadImage));
-                }
-                g64::image::check(file.as_slice())?;
-                Ok(file)
-            }
+            Image::Blocks(blocks) => hand_back(blocks, false),
+            Image::Capture(capture) => hand_back(capture.into_source().into_source(), true),
         }
     }
 }
