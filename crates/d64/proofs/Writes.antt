@@ -1,5 +1,5 @@
 -- An image after one block of it was written.
-use Rattle.std.proofs.Common.{◌≡◌, ℕ, ◌+◌, ◌-◌, ◌≤◌, Bool, true, false, cond, ◌&&◌, eqb, ◌⊎◌, List, length, take, drop, Ok, Err, vec_items, vec_len, Vec, sym, refl, ap, ◌∙◌, subst, inl, inr, arith}
+use Rattle.std.proofs.Common.{◌≡◌, ℕ, ◌+◌, ◌-◌, ◌≤◌, Bool, true, false, cond, eqb, ◌⊎◌, List, length, take, drop, Ok, Err, vec_items, vec_len, Vec, sym, refl, ap, ◌∙◌, subst, inl, inr, arith}
 use borrow.Rule.Slice.PartMut.{put_mid}
 use lib.Seq.{paste}
 use Rattle.std.proofs.lemmas.Bool.{false≢true, eqb-true, eq-eqb, and_parts, cases_order, cases_Bool}
@@ -8,50 +8,15 @@ use Rattle.std.proofs.lemmas.List.Edits.{length-paste}
 use Rattle.std.proofs.lemmas.Slice.{put_mid-paste, take-put_mid_below, drop-put_mid, between-put_mid}
 use Rattle.std.proofs.lemmas.Bool.Decides.{nat_tests}
 use Rattle.std.specs.Vec.{with_items}
-use Rattle.disk.specs.declared.cause.Cause.TheVariants.{NoHeader, NoSuchBlock, Protected}
-use Rattle.disk.specs.declared.layer.Layer.TheVariants.{Sector}
+use Rattle.disk.specs.declared.cause.Cause.TheVariants.{NoSuchBlock}
 use Rattle.disk.specs.declared.refusal.Refusal.{Refusal}
-use Rattle.disk.specs.Refusals.{refusal}
 use Rattle.disk.specs.Geometry.{Place, legal, index_of}
-use Rattle.disk.proofs.Places.{index_within, place_same}
-use Rattle.sector.specs.Source.{Disk, bytes, fault, fault_at}
-use Rattle.sector.specs.Device.{Answers, free, barred, answering, allowed, written}
+use Rattle.disk.proofs.Places.{place_same}
+use Rattle.sector.specs.Source.{Disk, bytes, fault}
+use Rattle.sector.specs.Device.{Answers, allowed, written}
 use Rattle.disk.specs.Geometry.{same_place}
-use Rattle.d64.specs.Image.{offset_of, block_at, answers_of, begin_of, writable_at}
-
--- what it says that a block may be written
-pub record Writable (xs : List ℕ) (protected : Bool) (p : Place) (at : ℕ) : Type 0 where
-  pub there : legal p ≡ true
-  pub sized : length xs ≡ 174848
-  pub begin : at ≡ offset_of p
-  pub allows : Ok tt ≡ allowed (answers_of xs protected) p
-
-pub is_writable : (xs : List ℕ) (protected : Bool) (p : Place) (at : ℕ) → writable_at xs protected p ≡ Ok at → Writable xs protected p at
-unfolding writable_at begin_of allowed answers_of
-is_writable xs protected p at e =
-    let r = go (legal p) protected (eqb (length xs) 174848) e in
-    record { there = r.0; sized = eqb-true (length xs) 174848 r.1; begin = r.2; allows = r.3 }
-  where
-    go : (a b s : Bool) → cond (b && a) (Err (fault_at Protected p)) (cond a (cond s (Ok (offset_of p)) (Err (fault_at NoHeader p))) (Err (fault_at NoSuchBlock p))) ≡ Ok at
-        → (a ≡ true) × (s ≡ true) × (at ≡ offset_of p) × (Ok tt ≡ cond a (answering p (cond a (cond b (barred Protected) (cond s free (barred NoHeader))) (barred NoSuchBlock))) (Err (refusal NoSuchBlock Sector p)))
-    go true false true f = (refl, refl, cc, refl)
-    go true false false f = cc
-    go true true s f = cc
-    go false true s f = cc
-    go false false s f = cc
-
--- and that it may not be
-pub not_writable : (xs : List ℕ) (protected : Bool) (p : Place) (e : Refusal) → writable_at xs protected p ≡ Err e → Err e ≡ allowed (answers_of xs protected) p
-unfolding writable_at begin_of allowed answers_of
-not_writable xs protected p e = go (legal p) protected (eqb (length xs) 174848)
-  where
-    go : (a b s : Bool) → cond (b && a) (Err (fault_at Protected p)) (cond a (cond s (Ok (offset_of p)) (Err (fault_at NoHeader p))) (Err (fault_at NoSuchBlock p))) ≡ Err e
-        → Err e ≡ cond a (answering p (cond a (cond b (barred Protected) (cond s free (barred NoHeader))) (barred NoSuchBlock))) (Err (refusal NoSuchBlock Sector p))
-    go true false true f = cc
-    go true false false f = cc
-    go true true s f = cc
-    go false true s f = cc
-    go false false s f = cc
+use Rattle.d64.proofs.Begins.{Begins}
+use Rattle.d64.specs.Image.{offset_of, block_at, answers_of}
 
 -- a list with 256 bytes of it written over: its other parts are as they were
 module _ (o : ℕ) (xs b : List ℕ) (l : length b ≡ 256) (h : o + 256 ≤ length xs) where
@@ -93,9 +58,9 @@ unfolding block_at
 none_at xs q h = rw h refl
 
 -- an allowed write, block by block
-module _ (xs b : List ℕ) (protected : Bool) (p : Place) (at : ℕ) (w : Writable xs protected p at) (l : length b ≡ 256) where
-  pub fitting : offset_of p + 256 ≤ length xs
-  fitting = let i = index_within p w.there in let s = w.sized in omega arith
+module _ (xs b : List ℕ) (protected : Bool) (p : Place) (at : ℕ) (ok : Ok tt ≡ allowed (answers_of xs protected) p) (w : Begins xs p at) (l : length b ≡ 256) where
+  fitting : offset_of p + 256 ≤ length xs
+  fitting = let b = w.begin in let h = w.within in omega arith
 
   pub same_length : length (paste xs (offset_of p) b 256) ≡ length xs
   same_length = paste_length (offset_of p) xs b l fitting
@@ -120,7 +85,7 @@ module _ (xs b : List ℕ) (protected : Bool) (p : Place) (at : ℕ) (w : Writab
 
   pub written_so : (q : Place) → block_at (paste xs (offset_of p) b 256) q ≡ written (answers_of xs protected) (block_at xs) p b q
   unfolding written
-  written_so q = rw (← w.allows) (go (same_place q p) refl)
+  written_so q = rw (← ok) (go (same_place q p) refl)
     where
       go : (s : Bool) → same_place q p ≡ s → block_at (paste xs (offset_of p) b 256) q ≡ cond s (bytes b) (block_at xs q)
       go true e = here q (same_tells q p e)

@@ -63,7 +63,7 @@ fn put_block(image: &mut Vec<u8>, at: usize, block: &[u8; 256])
 }
 
 impl D64 {
-    // Where a block begins.
+    // Where a block begins, or the refusal of reading it.
     #[tactic(auto, unfolding(crate::specs::Image::begin_of))]
     fn begin_of(&self, place: Place) -> Result<usize, Refusal>
         ensures { result ≡ begin_of self.now.image.items place }
@@ -77,7 +77,7 @@ impl D64 {
         Ok(256 * index)
     }
 
-    // Where a block begins that may be written.
+    // Where a block begins that may be written, or the refusal of writing it.
     #[tactic(auto, unfolding(crate::specs::Image::writable_at))]
     fn writable_at(&self, place: Place) -> Result<usize, Refusal>
         ensures { result ≡ writable_at self.now.image.items self.now.protected place }
@@ -94,6 +94,7 @@ impl SectorSource for D64 {
 
     ghost whole = { λ s p. whole_block s.image.items s.small p };
 
+    #[tactic(auto, using(crate::proofs::Begins::loads))]
     fn read(&self, place: Place, block: &mut [u8; 256]) -> Result<(), Refusal> {
         let at = self.begin_of(place)?;
         block.copy_from_slice(&self.image.as_slice()[at..at + 256]);
@@ -104,11 +105,13 @@ impl SectorSource for D64 {
 impl SectorDevice for D64 {
     ghost answers = { λ s. answers_of s.image.items s.protected };
 
+    #[tactic(auto, using(crate::proofs::Begins::allows))]
     fn ask(&self, place: Place) -> Result<(), Refusal> {
         self.writable_at(place)?;
         Ok(())
     }
 
+    #[tactic(auto, using(crate::proofs::Begins::allows))]
     fn write(&mut self, place: Place, block: &[u8; 256]) -> Result<(), Refusal> {
         let at = self.writable_at(place)?;
         put_block(&mut self.image, at, block);

@@ -26,13 +26,14 @@ pub(crate) fn length_of(file: &[u8], track: u8) -> usize
 }
 
 // Where a track that has bits lies, its two bytes of length first.
+#[tactic(auto, unfolding(crate::specs::Layout::length_of))]
 pub(crate) fn extent_of(file: &[u8], track: u8) -> Option<Range<usize>>
     requires { 1 ≤ track }
     ensures { result ≡ extent_of file.now track }
 {
     match offset_of(file, track) {
         0 => None,
-        begin => Some(begin..begin + 2 + length_of(file, track)),
+        begin => Some(begin..begin + 2 + read16(file, begin)),
     }
 }
 

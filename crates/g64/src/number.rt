@@ -1,12 +1,15 @@
 // Numbers in a file, low byte first; past the file's end stand zeros.
-ghost use Rattle.std.specs.Prelude.{◌≡◌, ◌^◌, ◌<◌, slice_index};
+ghost use Rattle.std.specs.Prelude.{◌≡◌, ℕ, ◌+◌, ◌^◌, ◌<◌, slice_index};
 ghost use Rattle.g64.specs.Layout.{number16, number32};
 
-// One byte.
-fn byte_at(file: &[u8], at: usize) -> u8
-    ensures { result ≡ slice_index file.now at }
+use std::array;
+
+// The bytes from a place on.
+fn bytes_at<const N: usize>(file: &[u8], at: usize) -> [u8; N]
+    requires { at + N < 2 ^ 34 }
+    ensures { (k : ℕ) → k < N → slice_index result k ≡ slice_index file.now (at + k) }
 {
-    file.get(at).copied().unwrap_or(0)
+    array::from_fn(|k| file.get(at + k).copied().unwrap_or(0))
 }
 
 // Two bytes as a number.
@@ -16,7 +19,7 @@ pub(crate) fn read16(file: &[u8], at: usize) -> usize
     ensures value { result ≡ number16 file.now at }
     ensures small { result < 65536 }
 {
-    u16::from_le_bytes([byte_at(file, at), byte_at(file, at + 1)]) as usize
+    u16::from_le_bytes(bytes_at(file, at)) as usize
 }
 
 // Four bytes as a number.
@@ -26,6 +29,5 @@ pub(crate) fn read32(file: &[u8], at: usize) -> usize
     ensures value { result ≡ number32 file.now at }
     ensures small { result < 4294967296 }
 {
-    let bytes = [at, at + 1, at + 2, at + 3].map(|k| byte_at(file, k));
-    u32::from_le_bytes(bytes) as usize
+    u32::from_le_bytes(bytes_at(file, at)) as usize
 }
