@@ -5,7 +5,7 @@ ghost use Rattle.g64.specs.Layout.{offset_of, length_of, extent_of, headed, insi
 use crate::number::*;
 use std::ops::Range;
 
-// What the table says of where a track begins; 0 stands for a track that has no bits.
+// What the file's own table says of where a track begins, in which 0 stands for a track without bits; `extent_of` turns that into an `Option`.
 #[tactic(auto, unfolding(crate::specs::Layout::offset_of))]
 pub(crate) fn offset_of(file: &[u8], track: u8) -> usize
     requires { 1 ≤ track }
