@@ -1,18 +1,53 @@
 -- What is written of bytes, piece by piece.
-use Rattle.std.proofs.Common.{◌≡◌, ℕ, ◌+◌, ◌-◌, ◌/◌, ◌%◌, ◌<◌, ◌≤◌, List, [], ◌∷◌, ◌++◌, length, get_or, take, drop, codes, sym, ap, ◌∙◌, arith}
-use lib.Utf8.{encode}
+use Rattle.std.proofs.Common.{◌≡◌, ℕ, ◌+◌, ◌-◌, ◌/◌, ◌%◌, ◌<◌, ◌≤◌, List, [], ◌∷◌, ◌++◌, length, get_or, take, drop, codes, decimal, false, ◌^◌, Some, Ok, Option, subst, inl, inr, append_assoc, refl, sym, ap, ◌∙◌, arith}
 use Rattle.std.specs.declared.fmt.Formatter.{Formatter}
 use Rattle.std.specs.List.{flat_map}
-use Rattle.std.specs.Fmt.{IsPlainFormatter, HasWritten}
+use Rattle.std.specs.Fmt.{IsPlainFormatter, HasWritten, ◌++?◌, DisplaysOnOk, char_count, padded_integral, format_spec, styled_decimal, radix_digits}
 use Rattle.std.proofs.Output.{writes_in_calls_nil, has_written_of_eq, has_written_append}
 use Rattle.std.proofs.lemmas.List.{flat_map_more, take_more, take_all, take_rest, nil_from_length}
-use Rattle.std.proofs.lemmas.Str.{encode_ascii}
+use Rattle.std.proofs.lemmas.Bool.{cases_lt}
+use Rattle.std.proofs.lemmas.Fmt.{decimal_digit, decimal_step}
+use Rattle.std.proofs.lemmas.Fmt as fmt
+use Rattle.std.specs.Option.{option_map}
 use Rattle.commands.specs.declared.verb.Verb.{Verb}
 use Rattle.commands.specs.Verbs.{usage_line, usage_note, usage_shown, verbs}
-use Rattle.commands.specs.Hex.{hex_digit, hex_byte, next_byte, hex_line}
+use Rattle.commands.specs.Hex.{hex_byte, next_byte, hex_line}
 
-pub digits_so : (b h l : ℕ) → h < 128 → l < 128 → h ≡ hex_digit (b / 16) → l ≡ hex_digit (b % 16) → encode h ++ encode l ≡ hex_byte b
-digits_so b h l p q e f = (λ i. encode_ascii h p i ++ encode_ascii l q i) ∙ (λ i. e i ∷ f i ∷ [])
+-- what `{:02}` writes of a byte
+padded_so : (n : ℕ) → n < 256 → padded_integral (format_spec 32 0 4 2 (2 ^ 64 - 1)) false [] (decimal n) ≡ decimal (n / 10) ++ decimal (n % 10)
+unfolding padded_integral char_count
+padded_so n small =
+    let last : decimal (n % 10) ≡ (48 + n % 10) ∷ [] = decimal_digit (n % 10) (omega arith) in
+    elim (cases_lt n 10) [
+      | inl one ↦ let high : n / 10 ≡ 0 = omega arith in let low : n % 10 ≡ n = omega arith in
+          rw (decimal_digit n one, high, low, decimal_digit n one, decimal_digit 0 (omega arith)) refl
+      | inr more ↦ elim (cases_lt n 100) [
+        | inl two ↦ let first : decimal (n / 10) ≡ (48 + n / 10) ∷ [] = decimal_digit (n / 10) (omega arith) in
+            rw (decimal_step n more (omega arith), last, first) refl
+        | inr three ↦ let first : decimal (n / 10 / 10) ≡ (48 + n / 10 / 10) ∷ [] = decimal_digit (n / 10 / 10) (omega arith) in
+            rw (decimal_step n more (omega arith), decimal_step (n / 10) (omega arith) (omega arith), last, first) refl
+      ]
+    ]
+
+two_digits : (n : ℕ) (rest : List ℕ) → n < 256 → styled_decimal (format_spec 32 0 4 2 (2 ^ 64 - 1)) n ++ rest ≡ decimal (n / 10) ++ (decimal (n % 10) ++ rest)
+two_digits n rest small = ap (λ (l : List ℕ). l ++ rest) (padded_so n small) ∙ append_assoc (decimal (n / 10)) (decimal (n % 10)) rest
+
+pub place_so : (track sector : ℕ) (rest : List ℕ) → track < 256 → sector < 256 → styled_decimal (format_spec 32 0 4 2 (2 ^ 64 - 1)) track ++ (codes "/" ++ (styled_decimal (format_spec 32 0 4 2 (2 ^ 64 - 1)) sector ++ rest)) ≡ decimal (track / 10) ++ (decimal (track % 10) ++ (codes "/" ++ (decimal (sector / 10) ++ (decimal (sector % 10) ++ rest))))
+place_so track sector rest h k =
+    two_digits track _ h ∙ ap (λ (l : List ℕ). decimal (track / 10) ++ (decimal (track % 10) ++ (codes "/" ++ l))) (two_digits sector rest k)
+
+-- what `{:02x}` writes of a byte
+pub byte_so : (o : Option (List ℕ)) (b : ℕ) → o ≡ Some (radix_digits 16 false b) → b < 256 → option_map (padded_integral (format_spec 32 0 4 2 (2 ^ 64 - 1)) false []) o ≡ Some (hex_byte b)
+byte_so o b e small =
+    ap (option_map (padded_integral (format_spec 32 0 4 2 (2 ^ 64 - 1)) false [])) e ∙ ap (λ (l : List ℕ). Some l) (fmt.hex_byte false b small)
+
+-- a blank before it
+pub next_so : (o : Option (List ℕ)) (b : ℕ) → o ≡ Some (hex_byte b) → Some (32 ∷ []) ++? o ≡ Some (next_byte b)
+next_so o b e = ap (λ (x : Option (List ℕ)). Some (32 ∷ []) ++? x) e
+
+-- what a write that succeeded shows of a text
+pub displayed : {W : Type 0} (took : W → List ℕ → W → Type 0) (f g : Formatter W) (o : Option (List ℕ)) (bs : List ℕ) → DisplaysOnOk took f (Ok tt) o g → o ≡ Some bs → IsPlainFormatter f → HasWritten took f bs g
+displayed took f g o bs h e p = subst (λ (x : Option (List ℕ)). DisplaysOnOk took f (Ok tt) x g) e h p refl
 
 pub put_none : {W : Type 0} (took : W → List ℕ → W → Type 0) (f : Formatter W) → IsPlainFormatter f → HasWritten took f [] f
 put_none took f p = record { wrote = writes_in_calls_nil took f.writer; plain = p }
@@ -28,7 +63,7 @@ one_more show xs i d h = flat_map_more show [] (take i xs) (get_or xs i d) ∙ a
 abbrev pub others : List ℕ → List ℕ
 others bs = take (length bs - 1) (drop 1 bs)
 
-line_all : (bs : List ℕ) (i : ℕ) → 0 < length bs → length (others bs) ≤ i → hex_byte (get_or bs 0 0) ++ flat_map next_byte (take i (others bs)) ≡ hex_line bs
+line_all : (bs : List ℕ) (i : ℕ) → 1 ≤ length bs → length (others bs) ≤ i → hex_byte (get_or bs 0 0) ++ flat_map next_byte (take i (others bs)) ≡ hex_line bs
 unfolding hex_line
 line_all [] i h l = absurd (omega arith)
 line_all (b ∷ bs) i h l = ap (λ (x : List ℕ). hex_byte b ++ flat_map next_byte x) (take_all i (others (b ∷ bs)) l ∙ take_rest (b ∷ bs) 1)
@@ -37,7 +72,7 @@ module _ {W : Type 0} (took : W → List ℕ → W → Type 0) (f g h : Formatte
   pub wrote_next : {X : Type 0} (show : X → List ℕ) (xs : List X) (i : ℕ) (d : X) → i < length xs → HasWritten took f (flat_map show (take i xs)) g → HasWritten took g (show (get_or xs i d)) h → HasWritten took f (flat_map show (take (i + 1) xs)) h
   wrote_next show xs i d l p q = has_written_of_eq took f _ _ h (one_more show xs i d l) (has_written_append took f _ g _ h p q)
 
-  pub wrote_line : (bs : List ℕ) (i : ℕ) → 0 < length bs → length (others bs) ≤ i → HasWritten took f (hex_byte (get_or bs 0 0)) g → HasWritten took g (flat_map next_byte (take i (others bs))) h → HasWritten took f (hex_line bs) h
+  pub wrote_line : (bs : List ℕ) (i : ℕ) → 1 ≤ length bs → length (others bs) ≤ i → HasWritten took f (hex_byte (get_or bs 0 0)) g → HasWritten took g (flat_map next_byte (take i (others bs))) h → HasWritten took f (hex_line bs) h
   wrote_line bs i s l p q = has_written_of_eq took f _ _ h (line_all bs i s l) (has_written_append took f _ g _ h p q)
 
 -- the usage: its first line, the commands, and the note

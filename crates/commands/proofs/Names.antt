@@ -1,9 +1,17 @@
 -- One step of a look at a typed name.
-use Rattle.std.proofs.Common.{◌≡◌, ℕ, ◌-◌, ◌<◌, ◌≤◌, Bool, true, false, cond, eqb, List, [], ◌∷◌, ◌++◌, length, get_or, take, drop, is_some, Some, None, Option, sym, refl, ap, ◌∙◌, append_assoc, append-nil, arith}
-use Rattle.std.proofs.lemmas.List.{take_rest, nil_from_length}
+use Rattle.std.proofs.Common.{◌≡◌, ℕ, ◌-◌, ◌<◌, ◌≤◌, Bool, true, false, cond, eqb, List, [], ◌∷◌, ◌++◌, length, get_or, take, drop, is_some, Some, None, Option, sym, refl, ap, ◌∙◌, subst, append_assoc, append-nil, arith}
+use Rattle.std.proofs.lemmas.List.{take_rest}
+use Rattle.std.proofs.lemmas.Bool.{false≢true}
 use Rattle.std.proofs.lemmas.Bool.Decides.{nat_tests}
-use Rattle.std.specs.Option.{option_map}
-use Rattle.commands.specs.Names.{hex_pair, paired, first_byte, behind, before, unescaped}
+use Rattle.std.specs.Char.{digit_value}
+use Rattle.commands.specs.Names.{hex_value, hex_pair, paired, first_byte, behind, before, unescaped}
+
+-- what to_digit answers is the value of the digit
+pub no_digit : (b c : ℕ) → c ≡ b → (digit_value c < 16 → ⊥) → hex_value b ≡ None
+no_digit b c e n = subst (λ (x : ℕ). hex_value x ≡ None) e (let here : digit_value c < 16 → ⊥ = n in grind (arith, nat_tests))
+
+pub a_digit : (b c d : ℕ) → c ≡ b → (digit_value c < 16) × (d ≡ digit_value c) → hex_value b ≡ Some d
+a_digit b c d e h = subst (λ (x : ℕ). hex_value x ≡ Some d) e (grind (arith, nat_tests))
 
 -- a slice's pattern names the rest of a text by its length
 pub plain_byte : (t : List ℕ) → 0 < length t → (get_or t 0 0 ≡ 92 → ⊥) → Some (get_or t 0 0, take (length t - 1) (drop 1 t)) ≡ first_byte t
@@ -45,42 +53,47 @@ some_before : (b : ℕ) (o : Option (List ℕ)) → is_some (before (Some b) o) 
 some_before b None = refl
 some_before b (Some bs) = refl
 
-some_first : (name : List ℕ) (o : Option (ℕ × List ℕ)) → true ≡ is_some (behind name (going_on o)) → is_some o ≡ true
-some_first name None e = sym e
-some_first name (Some p) e = refl
+-- what a text with no first byte stands for
+abbrev pub left : List ℕ → Option (List ℕ)
+left [] = Some []
+left (a ∷ rest) = None
 
-some_mapped : {X Y : Type 0} (f : X → Y) (o : Option X) → is_some (option_map f o) ≡ is_some o
-some_mapped f None = refl
-some_mapped f (Some x) = refl
+some_left : (rest : List ℕ) → eqb (length rest) 0 ≡ is_some (left rest)
+some_left [] = refl
+some_left (a ∷ rest) = grind (arith, nat_tests)
+
+ended : (rest name : List ℕ) → true ≡ is_some (behind name (left rest)) → behind name (left rest) ≡ Some name
+ended [] name e = ap (λ (l : List ℕ). Some l) (append-nil name)
+ended (a ∷ rest) name e = absurd (false≢true (sym e))
 
 pub behind_more : (name : List ℕ) (b : ℕ) (o : Option (List ℕ)) → behind (name ++ b ∷ []) o ≡ behind name (before (Some b) o)
 behind_more name b None = refl
 behind_more name b (Some bs) = ap (λ (l : List ℕ). Some l) (append_assoc name (b ∷ []) bs)
 
--- the ways of the loop that looks
-module _ (text rest : List ℕ) (inv : is_some (unescaped rest) ≡ is_some (unescaped text)) where
-  pub bad_so : 0 < length rest → None ≡ first_byte rest → false ≡ is_some (unescaped text)
-  bad_so h e = ap (λ (o : Option (ℕ × List ℕ)). is_some (going_on o)) e ∙ sym (ap is_some (unescaped_first rest h)) ∙ inv
+pub none_left : (rest : List ℕ) → None ≡ first_byte rest → unescaped rest ≡ left rest
+unfolding unescaped
+none_left [] e = refl
+none_left (a ∷ rest) e = unescaped_first (a ∷ rest) (omega arith) ∙ ap going_on (sym e)
 
-  pub look_so : (tail : List ℕ) (b : ℕ) → 0 < length rest → Some (b, tail) ≡ first_byte rest → is_some (unescaped tail) ≡ is_some (unescaped text)
-  look_so tail b h e = sym (some_before b (unescaped tail)) ∙ ap (λ (o : Option (ℕ × List ℕ)). is_some (going_on o)) e ∙ sym (ap is_some (unescaped_first rest h)) ∙ inv
+-- one byte on
+pub next_left : (rest tail : List ℕ) (b : ℕ) → Some (b, tail) ≡ first_byte rest → unescaped rest ≡ before (Some b) (unescaped tail)
+next_left [] tail b e = grind arith
+next_left (a ∷ rest) tail b e = unescaped_first (a ∷ rest) (omega arith) ∙ ap going_on (sym e)
 
-  pub good_so : length rest ≡ 0 → true ≡ is_some (unescaped text)
-  unfolding unescaped
-  good_so e = sym (ap (λ (l : List ℕ). is_some (unescaped l)) (nil_from_length rest e)) ∙ inv
+-- the way of the loop that looks
+pub look_so : (text rest tail : List ℕ) (b : ℕ) → is_some (unescaped rest) ≡ is_some (unescaped text) → Some (b, tail) ≡ first_byte rest → is_some (unescaped tail) ≡ is_some (unescaped text)
+look_so text rest tail b inv e = sym (some_before b (unescaped tail)) ∙ sym (ap is_some (next_left rest tail b e)) ∙ inv
+
+pub looked_so : (text rest : List ℕ) → is_some (unescaped rest) ≡ is_some (unescaped text) → None ≡ first_byte rest → eqb (length rest) 0 ≡ is_some (unescaped text)
+looked_so text rest inv e = some_left rest ∙ sym (ap is_some (none_left rest e)) ∙ inv
 
 -- the ways of the loop that writes: what is written, before what is left
-module _ (text rest name : List ℕ) (inv : behind name (unescaped rest) ≡ unescaped text) where
-  pub more_so : {X : Type 0} (f : X → ℕ × List ℕ) (r : Option X) → true ≡ is_some (unescaped text) → 0 < length rest → option_map f r ≡ first_byte rest → is_some r ≡ true
-  more_so f r s h e =
-      sym (some_mapped f r) ∙ ap is_some e ∙ some_first name (first_byte rest) (s ∙ ap is_some (sym inv ∙ ap (behind name) (unescaped_first rest h)))
+pub step_so : (text rest tail name more : List ℕ) (b : ℕ) → behind name (unescaped rest) ≡ unescaped text → Some (b, tail) ≡ first_byte rest → more ≡ name ++ b ∷ [] → behind more (unescaped tail) ≡ unescaped text
+step_so text rest tail name more b inv e m =
+    ap (λ (l : List ℕ). behind l (unescaped tail)) m ∙ behind_more name b (unescaped tail)
+    ∙ ap (behind name) (sym (next_left rest tail b e)) ∙ inv
 
-  pub step_so : {X : Type 0} (f : X → ℕ × List ℕ) (r : Option X) (x : X) (more : List ℕ) → 0 < length rest → option_map f r ≡ first_byte rest → r ≡ Some x → more ≡ name ++ (f x).0 ∷ [] → behind more (unescaped (f x).1) ≡ unescaped text
-  step_so f r x more h e s m =
-      ap (λ (l : List ℕ). behind l (unescaped (f x).1)) m ∙ behind_more name (f x).0 (unescaped (f x).1)
-      ∙ ap (behind name) (ap going_on (sym (ap (option_map f) s) ∙ e) ∙ sym (unescaped_first rest h)) ∙ inv
-
-  pub end_so : length rest ≡ 0 → unescaped text ≡ Some name
-  unfolding unescaped
-  end_so e =
-      sym inv ∙ ap (λ (l : List ℕ). behind name (unescaped l)) (nil_from_length rest e) ∙ ap (λ (l : List ℕ). Some l) (append-nil name)
+pub end_so : (text rest name : List ℕ) → behind name (unescaped rest) ≡ unescaped text → true ≡ is_some (unescaped text) → None ≡ first_byte rest → unescaped text ≡ Some name
+end_so text rest name inv s e =
+    let at_end = sym inv ∙ ap (behind name) (none_left rest e) in
+    at_end ∙ ended rest name (s ∙ ap is_some at_end)

@@ -1,9 +1,8 @@
 -- What parse answers is the number of the text.
-use Rattle.std.proofs.Common.{◌≡◌, ℕ, ◌^◌, ◌<◌, Bool, true, ◌&&◌, ltb, List, [], ◌∷◌, length, get_or, None, Ok, Err, Result, sym, refl, ap, ◌∙◌, arith, rules}
+use Rattle.std.proofs.Common.{◌≡◌, ℕ, ◌^◌, ◌<◌, Bool, true, ◌&&◌, ltb, List, [], ◌∷◌, length, get_or, None, Ok, Err, Result, refl, arith, rules}
 use Rattle.std.specs.Result.{OkIff, result_ok}
 use Rattle.std.specs.Str.{all_ascii_digits}
 use Rattle.std.proofs.lemmas.Str.Parse.{IsNumeralModel, numerals_by_fold}
-use Rattle.std.proofs.lemmas.List.{nil_from_length}
 use Rattle.std.proofs.lemmas.Bool.Decides.{nat_tests}
 use Rattle.commands.specs.Numbers.{digits_after, byte_number}
 
@@ -18,20 +17,8 @@ unfolding byte_number
 parsed_so t (Ok x) h = grind (arith, nat_tests)
 parsed_so t (Err e) h = grind (arith, nat_tests)
 
-plus_first : (t : List ℕ) → get_or t 0 0 ≡ 43 → None ≡ byte_number t
+-- a sign is no digit
+pub plus_first : (t : List ℕ) → get_or t 0 0 ≡ 43 → None ≡ byte_number t
 unfolding byte_number
 plus_first [] e = absurd (omega arith)
 plus_first (c ∷ cs) e = rw e refl
-
-pub signed_so : (t b : List ℕ) → b ≡ t → get_or b 0 0 ≡ 43 → None ≡ byte_number t
-signed_so t b e h = plus_first t (sym (ap (λ (l : List ℕ). get_or l 0 0) e) ∙ h)
-
--- the two ways past the sign: another first byte, and no byte
-pub other_first : (t b : List ℕ) → b ≡ t → (get_or b 0 0 ≡ 43 → ⊥) → get_or t 0 0 ≡ 43 → ⊥
-other_first t b e n h = n (ap (λ (l : List ℕ). get_or l 0 0) e ∙ h)
-
-pub none_first : (t b : List ℕ) → b ≡ t → length b ≡ 0 → get_or t 0 0 ≡ 43 → ⊥
-none_first t b e z h =
-    let n : t ≡ [] = nil_from_length t (sym (ap length e) ∙ z) in
-    let f : ◌≡◌ {A = ℕ} 0 43 = sym (ap (λ (l : List ℕ). get_or l 0 0) n) ∙ h in
-    omega arith

@@ -1,5 +1,5 @@
 -- The bytes that a typed name stands for.
-use Rattle.std.specs.Prelude.{ℕ, ◌+◌, ◌-◌, ◌*◌, cond, List, [], ◌∷◌, ◌++◌, length, drop, Some, None, Option, ◌==◌, nat_lt, slice_index}
+use Rattle.std.specs.Prelude.{ℕ, ◌+◌, ◌-◌, ◌*◌, cond, List, [], ◌∷◌, ◌++◌, length, drop, Some, None, codes, Option, ◌==◌, nat_lt, slice_index}
 use Rattle.commands.specs.declared.name.NameError.{NameError}
 use Rattle.commands.specs.declared.name.NameError.TheVariants.{NoMemory, BadEscape}
 
@@ -55,3 +55,7 @@ unescaped (a ∷ b ∷ c ∷ d ∷ rest) =
 abbrev pub why_not : Option (List ℕ) → NameError
 why_not None = BadEscape
 why_not (Some name) = NoMemory
+
+abbrev pub why_shown : NameError → List ℕ
+why_shown NoMemory = codes "out of memory"
+why_shown BadEscape = codes "bad escape in the name"

@@ -17,9 +17,11 @@ impl fmt::Display for Account<'_> {
     ghost output = { λ a. Some (account_shown a) };
 
     fn fmt<W: fmt::Write>(&self, f: &mut fmt::Formatter<W>) -> fmt::Result {
-        let name = self.name;
-        let bytes = self.bytes;
-        let blocks = self.blocks;
+        let Account {
+            name,
+            bytes,
+            blocks,
+        } = *self;
         write!(f, "{name}: {bytes} bytes, {blocks} blocks")
     }
 }
@@ -35,8 +37,7 @@ impl fmt::Display for Tally {
     ghost output = { λ t. Some (tally_shown t) };
 
     fn fmt<W: fmt::Write>(&self, f: &mut fmt::Formatter<W>) -> fmt::Result {
-        let read = self.read;
-        let refused = self.refused;
+        let Tally { read, refused } = *self;
         write!(f, "683 blocks: {read} read, {refused} refused")
     }
 }
@@ -52,11 +53,6 @@ impl fmt::Display for Written {
 
     fn fmt<W: fmt::Write>(&self, f: &mut fmt::Formatter<W>) -> fmt::Result {
         let (track, sector) = self.place;
-        let (tens, ones) = (track / 10, track % 10);
-        let (sector_tens, sector_ones) = (sector / 10, sector % 10);
-        write!(
-            f,
-            "{tens}{ones}/{sector_tens}{sector_ones}: 256 bytes written"
-        )
+        write!(f, "{track:02}/{sector:02}: 256 bytes written")
     }
 }

@@ -2,16 +2,31 @@
 ghost use Rattle.std.specs.Prelude.{◌≡◌, is_some, Some, MatchResult};
 ghost use Rattle.commands.specs.declared.name.NameError.TheVariants.{NoMemory};
 ghost use Rattle.std.specs.Option.{option_map};
-ghost use Rattle.commands.specs.Names.{hex_value, hex_pair, first_byte, unescaped, why_not};
+ghost use Rattle.commands.specs.Names.{hex_pair, first_byte, unescaped, why_not, why_shown};
 
 use std::alloc::{AllocFailed, Global};
+use std::error::Error;
+use std::fmt;
 
-#[derive(Clone, Copy, Debug)]
+#[derive(Clone, Copy, Debug, PartialEq, Eq)]
 pub enum NameError {
     NoMemory,
     // a backslash that begins no \xHH
     BadEscape,
 }
+
+impl fmt::Display for NameError {
+    ghost output = { λ e. Some (why_shown e) };
+
+    fn fmt<W: fmt::Write>(&self, f: &mut fmt::Formatter<W>) -> fmt::Result {
+        match self {
+            NameError::NoMemory => write!(f, "out of memory"),
+            NameError::BadEscape => write!(f, "bad escape in the name"),
+        }
+    }
+}
+
+impl Error for NameError {}
 
 impl<T: Drop> From<AllocFailed<T>> for NameError {
     ghost from_gives = { λ _ r. r ≡ NoMemory };
@@ -21,25 +36,13 @@ impl<T: Drop> From<AllocFailed<T>> for NameError {
     }
 }
 
-// The value of a hexadecimal digit of either case.
-fn hex_value(digit: u8) -> Option<u8>
-    ensures { result ≡ hex_value digit }
-{
-    match digit {
-        b'0'..=b'9' => Some(digit - b'0'),
-        b'A'..=b'F' => Some(digit - b'A' + 10),
-        b'a'..=b'f' => Some(digit - b'a' + 10),
-        _ => None,
-    }
-}
-
-// The byte of two hexadecimal digits.
+// The byte of two hexadecimal digits of either case.
 fn hex_pair(high: u8, low: u8) -> Option<u8>
     ensures { result ≡ hex_pair high low }
 {
-    let tens = hex_value(high)?;
-    let ones = hex_value(low)?;
-    Some(16 * tens + ones)
+    let tens = char::from(high).to_digit(16)?;
+    let ones = char::from(low).to_digit(16)?;
+    Some((16 * tens + ones) as u8)
 }
 
 // The byte that a text begins with, and the text after it; none where no byte is spelled.
@@ -47,13 +50,9 @@ fn first_byte(text: &[u8]) -> Option<(u8, &[u8])>
     ensures { option_map (λ p. (p.0, p.1.now)) result ≡ first_byte text.now }
 {
     match text {
-        [b'\\', b'x', high, low, rest @ ..] => {
-            let byte = hex_pair(*high, *low)?;
-            Some((byte, rest))
-        }
-        [b'\\', ..] => None,
+        [b'\\', b'x', high, low, rest @ ..] => Some((hex_pair(*high, *low)?, rest)),
+        [] | [b'\\', ..] => None,
         [byte, rest @ ..] => Some((*byte, rest)),
-        [] => None,
     }
 }
 
@@ -62,13 +61,10 @@ fn is_spelled(text: &[u8]) -> bool
     ensures { result ≡ is_some (unescaped text.now) }
 {
     let mut rest = text;
-    while !rest.is_empty() {
-        let Some((_, tail)) = first_byte(rest) else {
-            return false;
-        };
+    while let Some((_, tail)) = first_byte(rest) {
         rest = tail;
     }
-    true
+    rest.is_empty()
 }
 
 // The bytes that the text stands for. A bad text is refused before any memory is asked for.
@@ -80,8 +76,7 @@ pub fn name_bytes(heap: Global, text: &str) -> Result<Vec<u8>, NameError>
         return Err(NameError::BadEscape);
     }
     let mut name = Vec::new(heap);
-    while !rest.is_empty() {
-        let (byte, tail) = first_byte(rest).unwrap();
+    while let Some((byte, tail)) = first_byte(rest) {
         name.push(byte)?;
         rest = tail;
     }

@@ -7,8 +7,7 @@ pub fn number(text: &str) -> Option<u8>
     ensures { result ≡ byte_number text.now }
 {
     // parse takes a sign too
-    let bytes = text.as_bytes();
-    if !bytes.is_empty() && bytes[0] == b'+' {
+    if text.starts_with('+') {
         return None;
     }
     text.parse::<u8>().ok()

@@ -1,11 +1,13 @@
 // The words that commands begin with.
 ghost use Rattle.std.specs.Prelude.{◌≡◌, Some};
+ghost use Rattle.std.specs.Result.{result_ok};
 ghost use Rattle.commands.specs.Verbs.{verb_of, usage_of, usage_shown};
 
 use std::fmt;
+use std::str::FromStr;
 
 // The word that a command begins with.
-#[derive(Clone, Copy)]
+#[derive(Clone, Copy, Debug, PartialEq, Eq)]
 pub enum Verb {
     Extract,
     Block,
@@ -15,28 +17,38 @@ pub enum Verb {
 
 impl Verb {
     pub const ALL: [Verb; 4] = [Verb::Extract, Verb::Block, Verb::Survey, Verb::Help];
+}
 
-    pub fn of(word: &str) -> Option<Verb>
-        ensures { result ≡ verb_of word.now }
-    {
+// A word that no command begins with.
+#[derive(Clone, Copy, Debug, PartialEq, Eq)]
+pub struct NoVerb;
+
+impl FromStr for Verb {
+    type Err = NoVerb;
+
+    ghost from_str_gives = { λ word verb. result_ok verb ≡ verb_of word };
+
+    fn from_str(word: &str) -> Result<Verb, NoVerb> {
         match word {
-            "extract" => Some(Verb::Extract),
-            "block" => Some(Verb::Block),
-            "survey" => Some(Verb::Survey),
-            "--help" => Some(Verb::Help),
-            _ => None,
+            "extract" => Ok(Verb::Extract),
+            "block" => Ok(Verb::Block),
+            "survey" => Ok(Verb::Survey),
+            "--help" => Ok(Verb::Help),
+            _ => Err(NoVerb),
         }
     }
+}
 
-    // How the command is written.
-    pub fn usage(self) -> &'static str
-        ensures { result.now ≡ usage_of self }
-    {
+// How the command is written.
+impl fmt::Display for Verb {
+    ghost output = { λ v. Some (usage_of v) };
+
+    fn fmt<W: fmt::Write>(&self, f: &mut fmt::Formatter<W>) -> fmt::Result {
         match self {
-            Verb::Extract => "extract IMAGE NAME OUT",
-            Verb::Block => "block IMAGE TRACK SECTOR",
-            Verb::Survey => "survey IMAGE",
-            Verb::Help => "--help",
+            Verb::Extract => write!(f, "extract IMAGE NAME OUT"),
+            Verb::Block => write!(f, "block IMAGE TRACK SECTOR"),
+            Verb::Survey => write!(f, "survey IMAGE"),
+            Verb::Help => write!(f, "--help"),
         }
     }
 }
@@ -51,8 +63,7 @@ impl fmt::Display for Usage {
     fn fmt<W: fmt::Write>(&self, f: &mut fmt::Formatter<W>) -> fmt::Result {
         write!(f, "usage:")?;
         for verb in Verb::ALL {
-            let usage = verb.usage();
-            write!(f, "\n  namohike {usage}")?;
+            write!(f, "\n  namohike {verb}")?;
         }
         write!(f, "\nIn a NAME \\xHH stands for any byte.")
     }

@@ -1,16 +1,9 @@
-use Rattle.std.proofs.Common.{arith, true-eqb, false-eqb}
-use Rattle.commands.proofs.Names.{bad_so, look_so, good_so}
+use Rattle.std.proofs.Common.{◌∙◌}
+use Rattle.commands.proofs.Names.{look_so, looked_so}
 use Rattle.commands.proofs.name.is_spelled.Goals as goal
 
-pub returns-in_default : goal.returns-in_default
-returns-in_default c =
-    let some = false-eqb _ 0 c.loop-rest-test.ensures in
-    bad_so c.args.text.now c.loop-rest.rest.now c.loop-rest.invariant (omega arith) c.in_default.ensures
-
-pub loop-rest-preserved : goal.loop-rest-preserved
-loop-rest-preserved c =
-    let some = false-eqb _ 0 c.loop-rest-test.ensures in
-    look_so c.args.text.now c.loop-rest.rest.now c.loop-rest.invariant c.in-Some.tail.now _ (omega arith) c.in-Some.ensures
+pub loop-tail-preserved : goal.loop-tail-preserved
+loop-tail-preserved c = look_so c.args.text.now c.loop-tail.rest.now c.in-Some.tail.now _ c.loop-tail.invariant c.in-Some.ensures
 
 pub returns : goal.returns
-returns c = good_so c.args.text.now c.loop-rest.rest.now c.loop-rest.invariant (true-eqb _ 0 c.loop-rest-test.ensures)
+returns c = c.is_empty.ensures ∙ looked_so c.args.text.now c.loop-tail.rest.now c.loop-tail.invariant c.in_default.ensures

@@ -1,19 +1,14 @@
-use Rattle.std.proofs.Common.{ℕ, List, is_some, vec_items, ap, ◌∙◌, arith, true-eqb, false-eqb}
+use Rattle.std.proofs.Common.{ℕ, List, is_some, vec_items, ap, ◌∙◌}
 use Rattle.commands.specs.Names.{unescaped}
-use Rattle.commands.proofs.Names.{more_so, step_so, end_so}
+use Rattle.commands.proofs.Names.{step_so, end_so}
 use Rattle.commands.proofs.name.name_bytes.Goals as goal
 
-pub unwrap-byte-requires : goal.unwrap-byte-requires
-unwrap-byte-requires c =
-    let some = false-eqb _ 0 c.loop-rest-test.ensures in
-    more_so c.args.text.now c.loop-rest.rest.now (vec_items c.loop-rest.name) c.loop-rest.invariant _ c.first_byte.result
-    (c.if-not-is_spelled.ensures ∙ ap (λ (l : List ℕ). is_some (unescaped l)) c.as_bytes-rest.ensures.value) (omega arith) c.first_byte.ensures
-
-pub loop-rest-preserved : goal.loop-rest-preserved
-loop-rest-preserved c =
-    let some = false-eqb _ 0 c.loop-rest-test.ensures in
-    step_so c.args.text.now c.loop-rest.rest.now (vec_items c.loop-rest.name) c.loop-rest.invariant _ c.first_byte.result c.unwrap-byte.result (vec_items c.push.new.self)
-    (omega arith) c.first_byte.ensures c.unwrap-byte.ensures c.in_ok-push.ensures.items
+pub loop-byte-preserved : goal.loop-byte-preserved
+loop-byte-preserved c =
+    step_so c.args.text.now c.loop-byte.rest.now c.in-Some.tail.now (vec_items c.loop-byte.name) (vec_items c.push.new.self) c.in-Some.byte c.loop-byte.invariant
+    c.in-Some.ensures c.in_ok-push.ensures.items
 
 pub returns : goal.returns
-returns c = end_so c.args.text.now c.loop-rest.rest.now (vec_items c.loop-rest.name) c.loop-rest.invariant (true-eqb _ 0 c.loop-rest-test.ensures)
+returns c =
+    end_so c.args.text.now c.loop-byte.rest.now (vec_items c.loop-byte.name) c.loop-byte.invariant
+    (c.if-not-is_spelled.ensures ∙ ap (λ (l : List ℕ). is_some (unescaped l)) c.as_bytes-rest.ensures.value) c.in_default.ensures

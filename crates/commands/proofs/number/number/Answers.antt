@@ -1,18 +1,17 @@
-use Rattle.std.proofs.Common.{◌≡◌, get_or, ◌∙◌, true-eqb}
+use Rattle.std.proofs.Common.{sym, ◌∙◌, arith}
 use Rattle.std.proofs.lemmas.Str.Parse.{parse_plain}
-use Rattle.commands.proofs.Numbers.{own, parsed_so, signed_so, other_first, none_first}
+use Rattle.std.proofs.lemmas.Str.Pattern.{starts_char}
+use Rattle.std.proofs.lemmas.Bool.{false≢true}
+use Rattle.commands.proofs.Numbers.{own, parsed_so, plus_first}
 use Rattle.commands.proofs.number.number.Goals as goal
-use Rattle.commands.proofs.number.number.Goals.{else-not-is_empty-via-then-not-is_empty+else-bytes-eq43, else-not-is_empty-via-else-not-is_empty}
 
-pub returns-then-bytes-eq43 : goal.returns-then-bytes-eq43
-returns-then-bytes-eq43 c = signed_so c.args.text.now _ c.as_bytes-bytes.ensures.value c.if-bytes-eq43.true
+pub returns-then-starts_with : goal.returns-then-starts_with
+returns-then-starts_with c =
+    let starts = starts_char 43 c.args.text.now c.starts_with.result c.starts_with.ensures.cases (omega arith) (omega arith) in
+    plus_first c.args.text.now (starts.0 c.if-starts_with.true)
 
 pub returns : goal.returns
 returns c =
     let text = c.args.text.now in
-    let same = c.as_bytes-bytes.ensures.value in
-    let plain : get_or text 0 0 ≡ 43 → ⊥ = elim c.else-not-is_empty.branch [
-      | else-not-is_empty-via-then-not-is_empty+else-bytes-eq43 w ↦ other_first text _ same w.if-bytes-eq43.false
-      | else-not-is_empty-via-else-not-is_empty w ↦ none_first text _ same (true-eqb _ 0 w.if-not-is_empty.ensures)
-    ] in
-    c.ok.ensures.value ∙ parsed_so text c.parse.result (parse_plain own 8 text _ c.parse.ensures.value.0 plain)
+    let starts = starts_char 43 text c.starts_with.result c.starts_with.ensures.cases (omega arith) (omega arith) in
+    c.ok.ensures.value ∙ parsed_so text c.parse.result (parse_plain own 8 text _ c.parse.ensures.value.0 (λ e. false≢true (sym c.if-starts_with.false ∙ starts.1 e)))

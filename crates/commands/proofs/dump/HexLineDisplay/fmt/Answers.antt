@@ -1,25 +1,22 @@
-use Rattle.std.proofs.Common.{true, refl, arith, true-eqb, false-eqb}
+use Rattle.std.proofs.Common.{arith}
 use Rattle.std.proofs.Output.{has_written_of_eq}
 use Rattle.commands.specs.Hex.{next_byte}
-use Rattle.commands.proofs.Lines.{put_none, line_none, others, wrote_next, wrote_line}
+use Rattle.commands.proofs.Lines.{put_none, line_none, others, byte_so, next_so, displayed, wrote_next, wrote_line}
 use Rattle.commands.proofs.dump.HexLineDisplay.fmt.Goals as goal
 
-pub returns-then-is_empty-clause-writes : goal.returns-then-is_empty-clause-writes
-returns-then-is_empty-clause-writes g c = λ plain _.
-    has_written_of_eq g.W.Write.write_str_gives _ _ _ _ (line_none c.args.self.now.0.now (true-eqb _ 0 c.if-is_empty.ensures)) (put_none g.W.Write.write_str_gives c.args.f.now plain)
+pub returns-in_default-clause-writes : goal.returns-in_default-clause-writes
+returns-in_default-clause-writes g c = λ plain _.
+    has_written_of_eq g.W.Write.write_str_gives _ _ _ _ (line_none c.args.self.now.0.now (omega arith)) (put_none g.W.Write.write_str_gives c.args.f.now plain)
 
-pub loop-more-init : goal.loop-more-init
-loop-more-init g c = λ plain. put_none g.W.Write.write_str_gives _ plain
-
-pub loop-more-preserved : goal.loop-more-preserved
-loop-more-preserved g c = λ plain.
-    let before = c.loop-more.invariant plain in
-    wrote_next g.W.Write.write_str_gives c.write.new.self c.loop-more.f c.write-in-loop-more.new.self next_byte (others c.args.self.now.0.now) c.loop-more.more-index 0 (omega arith) before
-    (c.in_ok-write-2.ensures.writes before.plain (refl {a = true}))
+pub loop-byte-preserved : goal.loop-byte-preserved
+loop-byte-preserved g c = λ plain.
+    let before = c.loop-byte.invariant plain in
+    let next = displayed g.W.Write.write_str_gives _ _ _ _ c.in_ok-write-2.ensures.writes (next_so _ _ (rw c.laid_out-in-loop-byte.ensures (byte_so _ _ c.in_radix-in-loop-byte.ensures (omega arith)))) before.plain in
+    wrote_next g.W.Write.write_str_gives c.write.new.self c.loop-byte.f c.write-in-loop-byte.new.self next_byte (others c.args.self.now.0.now) c.loop-byte.byte-index 0 (omega arith) before
+    next
 
 pub returns-clause-writes : goal.returns-clause-writes
 returns-clause-writes g c = λ plain _.
-    let some = false-eqb _ 0 c.if-is_empty.ensures in
-    let first = c.in_ok-write.ensures.writes plain (refl {a = true}) in
-    wrote_line g.W.Write.write_str_gives c.args.f.now c.write.new.self c.loop-more.f c.args.self.now.0.now c.loop-more.more-index (omega arith) (omega arith) first
-    (c.loop-more.invariant first.plain)
+    let first = displayed g.W.Write.write_str_gives _ _ _ _ c.in_ok-write.ensures.writes (rw c.laid_out.ensures (byte_so _ _ c.in_radix.ensures (omega arith))) plain in
+    wrote_line g.W.Write.write_str_gives c.args.f.now c.write.new.self c.loop-byte.f c.args.self.now.0.now c.loop-byte.byte-index c.in-len1-up.len_at_least (omega arith) first
+    (c.loop-byte.invariant first.plain)

@@ -2,7 +2,7 @@
 use Rattle.std.proofs.Common.{sym, ap}
 use Rattle.commands.specs.Verbs.{verb_of}
 use Rattle.commands.proofs.Words.{no_verb}
-use Rattle.commands.proofs.verb.Verb.of.Goals as goal
+use Rattle.commands.proofs.verb.VerbFromStr.from_str.Goals as goal
 
 pub returns-in-extract : goal.returns-in-extract
 unfolding verb_of
