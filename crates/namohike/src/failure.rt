@@ -1,49 +1,64 @@
 // Why the program does not do what it was asked.
+use commands::command::CommandError;
+use commands::verb::Usage;
 use disk::refusal::Refusal;
 use std::alloc::AllocError;
-use std::io;
+use std::error::Error;
+use std::{fmt, io};
 
-#[derive(Clone, Copy)]
+#[derive(Clone, Copy, Debug)]
 pub enum Failure<'a> {
     Refused(Refusal),
+    // words that ask for no command
+    Misused(CommandError<'a>),
     CannotRead(&'a str, io::Error),
     CannotWrite(&'a str, io::Error),
     Failed(io::Error),
 }
 
-impl<'a> From<Refusal> for Failure<'a> {
-    fn from(refusal: Refusal) -> Failure<'a> {
+impl fmt::Display for Failure<'_> {
+    fn fmt<W: fmt::Write>(&self, f: &mut fmt::Formatter<W>) -> fmt::Result {
+        match self {
+            Failure::Refused(refusal) => write!(f, "{refusal}"),
+            Failure::Misused(error) => write!(f, "{error}"),
+            Failure::CannotRead(path, error) => write!(f, "cannot read {path}: {error}"),
+            Failure::CannotWrite(path, error) => write!(f, "cannot write {path}: {error}"),
+            Failure::Failed(error) => write!(f, "{error}"),
+        }
+    }
+}
+
+impl Error for Failure<'_> {}
+
+impl From<Refusal> for Failure<'_> {
+    fn from(refusal: Refusal) -> Self {
         Failure::Refused(refusal)
     }
 }
 
-impl<'a> From<io::Error> for Failure<'a> {
-    fn from(error: io::Error) -> Failure<'a> {
+impl<'a> From<CommandError<'a>> for Failure<'a> {
+    fn from(error: CommandError<'a>) -> Self {
+        Failure::Misused(error)
+    }
+}
+
+impl From<io::Error> for Failure<'_> {
+    fn from(error: io::Error) -> Self {
         Failure::Failed(error)
     }
 }
 
-impl<'a> From<AllocError> for Failure<'a> {
-    fn from(error: AllocError) -> Failure<'a> {
+impl From<AllocError> for Failure<'_> {
+    fn from(error: AllocError) -> Self {
         Failure::Failed(io::Error::from(error))
     }
 }
 
-// What ends the program with status 1, once it has said why.
-pub struct Unsuccessful;
-
-// A refusal is an answer, and so goes where accounts go; what has to do with files and memory goes to standard error.
-pub fn report(rt: &HostRuntime, outcome: Result<(), Failure<'_>>) -> Result<(), Unsuccessful> {
-    let Err(failure) = outcome else {
-        return Ok(());
-    };
+// A refusal is an answer, and so goes where accounts go; what has to do with words, files and memory goes to standard error.
+pub fn report(rt: &HostRuntime, failure: Failure<'_>) {
     let _ = match failure {
-        Failure::Refused(refusal) => println!(rt; "{refusal}"),
-        Failure::CannotRead(path, error) => eprintln!(rt; "namohike: cannot read {path}: {error}"),
-        Failure::CannotWrite(path, error) => eprintln!(rt;
-            "namohike: cannot write {path}: {error}"
-        ),
-        Failure::Failed(error) => eprintln!(rt; "namohike: {error}"),
+        Failure::Refused(_) => println!(rt; "{failure}"),
+        Failure::Misused(CommandError::NoCommand) => eprintln!(rt; "{}", Usage),
+        _ => eprintln!(rt; "namohike: {failure}"),
     };
-    Err(Unsuccessful)
 }

@@ -17,10 +17,8 @@ use std::{env, fs, io};
 use tables::survey::*;
 
 fn read_disk<'a>(rt: &HostRuntime, image: &'a str) -> Result<Image, Failure<'a>> {
-    match fs::read(rt, image) {
-        Ok(bytes) => Ok(Image::open(bytes, true)?),
-        Err(error) => Err(Failure::CannotRead(image, error)),
-    }
+    let bytes = fs::read(rt, image).map_err(|error| Failure::CannotRead(image, error))?;
+    Ok(Image::open(bytes, true)?)
 }
 
 // The file is written only once all of it was read.
@@ -34,9 +32,7 @@ fn extract_file<'a>(
     let extent = measure(&disk, name.bytes.as_slice())?;
     let mut buffer = vec![in rt.alloc(); 0u8; extent.bytes]?;
     extract(&disk, name.bytes.as_slice(), buffer.as_mut_slice())?;
-    if let Err(error) = fs::write(rt, out, buffer.as_slice()) {
-        return Err(Failure::CannotWrite(out, error));
-    }
+    fs::write(rt, out, buffer.as_slice()).map_err(|error| Failure::CannotWrite(out, error))?;
     let account = Account {
         name: name.text,
         bytes: extent.bytes,
@@ -65,26 +61,26 @@ fn survey_disk<'a>(rt: &HostRuntime, image: &'a str) -> Result<(), Failure<'a>> 
         layer: 0,
     }; BLOCKS];
     survey(&disk, &mut findings)?;
-    let mut refused = 0;
-    for index in 0..BLOCKS {
-        if findings[index].number != 0 {
-            refused += 1;
-            print_refusal(rt, &disk, index)?;
+    for (place, finding) in (0..BLOCKS).filter_map(block_place).zip(findings.iter()) {
+        if finding.number != 0 {
+            print_refusal(rt, &disk, place)?;
         }
     }
-    let tally = Tally {
-        read: BLOCKS - refused,
-        refused,
-    };
-    println!(rt; "{tally}")?;
+    let read = findings
+        .iter()
+        .filter(|finding| finding.number == 0)
+        .count();
+    let refused = findings
+        .iter()
+        .filter(|finding| finding.number != 0)
+        .count();
+    println!(rt; "{}", Tally { read, refused })?;
     Ok(())
 }
 
-fn print_refusal<'a>(rt: &HostRuntime, disk: &Image, index: usize) -> Result<(), Failure<'a>> {
-    if let Some(place) = block_place(index) {
-        if let Err(refusal) = load(disk, place) {
-            println!(rt; "{refusal}")?;
-        }
+fn print_refusal<'a>(rt: &HostRuntime, disk: &Image, place: Place) -> Result<(), Failure<'a>> {
+    if let Err(refusal) = load(disk, place) {
+        println!(rt; "{refusal}")?;
     }
     Ok(())
 }
@@ -98,19 +94,9 @@ fn obey<'a>(rt: &HostRuntime, command: Command<'a>) -> Result<(), Failure<'a>> {
     }
 }
 
-// Words that ask for no command are a fault of the call: it is named on standard error.
-fn run(rt: &HostRuntime, words: &[String]) -> Result<(), Unsuccessful> {
-    match parse(rt.alloc(), words) {
-        Ok(command) => report(rt, obey(rt, command)),
-        Err(CommandError::NoCommand) => {
-            let _ = eprintln!(rt; "{}", Usage);
-            Err(Unsuccessful)
-        }
-        Err(error) => {
-            let _ = eprintln!(rt; "namohike: {error}");
-            Err(Unsuccessful)
-        }
-    }
+fn run<'a>(rt: &HostRuntime, words: &'a [String]) -> Result<(), Failure<'a>> {
+    let command = parse(rt.alloc(), words)?;
+    obey(rt, command)
 }
 
 fn words_given(rt: &HostRuntime) -> io::Result<Vec<String>> {
@@ -118,20 +104,19 @@ fn words_given(rt: &HostRuntime) -> io::Result<Vec<String>> {
     Ok(words)
 }
 
-// The words' command is carried out, or why it is not has been said.
-fn carry_out(rt: &HostRuntime) -> Result<(), Unsuccessful> {
-    match words_given(rt) {
-        Ok(words) => run(rt, words.as_slice()),
-        Err(error) => {
-            let _ = eprintln!(rt; "namohike: {error}");
-            Err(Unsuccessful)
+fn exit_with(rt: &HostRuntime, outcome: Result<(), Failure<'_>>) -> ExitCode {
+    match outcome {
+        Ok(()) => ExitCode::SUCCESS,
+        Err(failure) => {
+            report(rt, failure);
+            ExitCode::FAILURE
         }
     }
 }
 
 fn main(rt: HostRuntime) -> ExitCode {
-    match carry_out(&rt) {
-        Ok(()) => ExitCode::SUCCESS,
-        Err(Unsuccessful) => ExitCode::FAILURE,
+    match words_given(&rt) {
+        Ok(words) => exit_with(&rt, run(&rt, words.as_slice())),
+        Err(error) => exit_with(&rt, Err(Failure::from(error))),
     }
 }
