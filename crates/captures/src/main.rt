@@ -1,9 +1,7 @@
 // Two captures, block by block and file by file, to be compared with what the tool that made them says.
 #![tactic(auto)]
 
-mod crc;
-
-use crate::crc::*;
+use crc::crc32;
 use disk::place::*;
 use disk::refusal::*;
 use files::extract::*;
@@ -60,10 +58,8 @@ fn print_file(rt: &HostRuntime, disk: &Image, name: &str) -> anyhow::Result<()> 
 }
 
 fn print_blocks(rt: &HostRuntime, disk: &Image) -> anyhow::Result<()> {
-    for index in 0..BLOCKS {
-        if let Some(place) = block_place(index) {
-            print_block(rt, disk, place)?;
-        }
+    for place in (0..BLOCKS).filter_map(block_place) {
+        print_block(rt, disk, place)?;
     }
     Ok(())
 }

@@ -1,6 +1,6 @@
 // What a disk answers, as text.
-use crate::crc::*;
 use crate::script::*;
+use crc::crc32;
 use d64::image::*;
 use directory::kind::*;
 use disk::file::*;
@@ -17,12 +17,11 @@ const FILLER: u8 = 0xee;
 
 // Whether the bytes are as they were before a call.
 fn kept(bytes: &[u8]) -> &'static str {
-    for byte in bytes {
-        if *byte != FILLER {
-            return "changed";
-        }
+    if bytes.iter().all(|byte| *byte == FILLER) {
+        "kept"
+    } else {
+        "changed"
     }
-    "kept"
 }
 
 // A refusal, and whether it left the buffer alone.

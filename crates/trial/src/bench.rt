@@ -1,9 +1,10 @@
 // The image under trial, and what is done to it.
 use crate::answer::*;
 use crate::script::*;
-use anyhow::anyhow;
+use anyhow::Context;
 use disk::place::*;
 use std::alloc::{AllocError, Global};
+use std::iter;
 
 #[derive(Drop)]
 pub struct Bench {
@@ -54,12 +55,10 @@ impl Bench {
 
 // Sets one byte of a block.
 fn put(image: &mut Vec<u8>, place: Place, offset: u8, byte: u8) -> anyhow::Result<()> {
-    let Some(index) = block_index(place) else {
-        return Err(anyhow!("no such block to change"));
-    };
-    let Some(old) = image.get_mut(256 * index + offset as usize) else {
-        return Err(anyhow!("no such byte to change"));
-    };
+    let index = block_index(place).context("no such block to change")?;
+    let old = image
+        .get_mut(256 * index + offset as usize)
+        .context("no such byte to change")?;
     *old = byte;
     Ok(())
 }
@@ -90,9 +89,9 @@ fn put_entry(
     put(image, block, at + 2, kind)?;
     put(image, block, at + 3, first.0)?;
     put(image, block, at + 4, first.1)?;
-    for k in 0..16u8 {
-        let byte = name.get(k as usize).copied().unwrap_or(0xa0);
-        put(image, block, at + 5 + k, byte)?;
+    let padded = name.iter().copied().chain(iter::repeat(0xa0));
+    for (offset, byte) in (at + 5..at + 21).zip(padded) {
+        put(image, block, offset, byte)?;
     }
     Ok(())
 }
@@ -100,13 +99,10 @@ fn put_entry(
 // Links all blocks off track 18 in place order; the last is full.
 fn thread(image: &mut Vec<u8>) -> anyhow::Result<()> {
     let mut next = (0, 255);
-    for index in (0..BLOCKS).rev() {
-        if let Some(place) = block_place(index) {
-            if place.0 != 18 {
-                link(image, place, next)?;
-                next = place;
-            }
-        }
+    let places = (0..BLOCKS).rev().filter_map(block_place);
+    for place in places.filter(|place| place.0 != 18) {
+        link(image, place, next)?;
+        next = place;
     }
     Ok(())
 }

@@ -3,7 +3,6 @@
 
 mod answer;
 mod bench;
-mod crc;
 mod script;
 
 use crate::bench::*;

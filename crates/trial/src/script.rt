@@ -1,9 +1,9 @@
 // The script: a command a line, in words with one blank between them. Numbers are decimal, or hexadecimal after $.
-ghost use Rattle.std.specs.Prelude.{◌<◌, IfOk};
-
-use anyhow::anyhow;
+use anyhow::{bail, ensure};
+use commands::name::name_bytes;
 use disk::place::*;
 use std::alloc::Global;
+use std::mem;
 
 // What is done to the image.
 #[derive(Drop)]
@@ -82,15 +82,15 @@ impl<'a> Words<'a> {
     }
 
     fn size(&mut self) -> anyhow::Result<usize> {
-        Ok(self.word().parse::<usize>()?)
+        Ok(self.word().parse()?)
     }
 
     fn byte(&mut self) -> anyhow::Result<u8> {
         let word = self.word();
-        match word.strip_prefix('$') {
-            Some(digits) => Ok(u8::from_str_radix(digits, 16)?),
-            None => Ok(word.parse::<u8>()?),
-        }
+        Ok(match word.strip_prefix('$') {
+            Some(digits) => u8::from_str_radix(digits, 16)?,
+            None => word.parse()?,
+        })
     }
 
     fn place(&mut self) -> anyhow::Result<Place> {
@@ -99,37 +99,9 @@ impl<'a> Words<'a> {
 
     // All the rest as a name.
     fn name(&mut self, heap: Global) -> anyhow::Result<Vec<u8>> {
-        let text = self.rest;
-        self.rest = "";
-        name_bytes(heap, text)
+        let text = mem::replace(&mut self.rest, "");
+        Ok(name_bytes(heap, text)?)
     }
-}
-
-fn hex_digit(digit: u8) -> anyhow::Result<u8>
-    ensures { IfOk result (λ d. d < 16) }
-{
-    match digit {
-        b'0'..=b'9' => Ok(digit - b'0'),
-        b'a'..=b'f' => Ok(digit - b'a' + 10),
-        _ => Err(anyhow!("no hexadecimal digit")),
-    }
-}
-
-// The bytes of a name, in which \xHH stands for any byte.
-fn name_bytes(heap: Global, text: &str) -> anyhow::Result<Vec<u8>> {
-    let mut name = Vec::new(heap);
-    for (k, piece) in text.split('\\').enumerate() {
-        if k == 0 {
-            name.extend_from_slice(piece.as_bytes())?;
-            continue;
-        }
-        let [b'x', high, low, rest @ ..] = piece.as_bytes() else {
-            return Err(anyhow!("no byte after a backslash"));
-        };
-        name.push(16 * hex_digit(*high)? + hex_digit(*low)?)?;
-        name.extend_from_slice(rest)?;
-    }
-    Ok(name)
 }
 
 // A command that changes the image, if the word is one.
@@ -164,39 +136,36 @@ fn parse_change(heap: Global, word: &str, words: &mut Words<'_>) -> anyhow::Resu
 
 // A command that asks.
 fn parse_question(heap: Global, word: &str, words: &mut Words<'_>) -> anyhow::Result<Question> {
-    match word {
-        "open" => Ok(Question::Open),
-        "block" => Ok(Question::Block(words.place()?)),
-        "locate" => Ok(Question::Locate(words.name(heap)?)),
-        "measure" => Ok(Question::Measure(words.name(heap)?)),
-        "extract" => Ok(Question::Extract {
+    Ok(match word {
+        "open" => Question::Open,
+        "block" => Question::Block(words.place()?),
+        "locate" => Question::Locate(words.name(heap)?),
+        "measure" => Question::Measure(words.name(heap)?),
+        "extract" => Question::Extract {
             capacity: words.size()?,
             name: words.name(heap)?,
-        }),
-        "write" | "protected" => Ok(Question::Write {
+        },
+        "write" | "protected" => Question::Write {
             protected: word == "protected",
             place: words.place()?,
             byte: words.byte()?,
-        }),
-        _ => Err(anyhow!("no such command")),
-    }
+        },
+        _ => bail!("no such command"),
+    })
 }
 
 pub fn parse(heap: Global, line: &str) -> anyhow::Result<Command<'_>> {
     let mut words = Words { rest: line };
     let word = words.word();
-    if word == "" || word == "#" {
-        return Ok(Command::Nothing);
-    }
-    if word == "case" {
-        return Ok(Command::Case(words.rest));
+    match word {
+        "" | "#" => return Ok(Command::Nothing),
+        "case" => return Ok(Command::Case(words.rest)),
+        _ => {}
     }
     let command = match parse_change(heap, word, &mut words)? {
         Some(change) => Command::Do(change),
         None => Command::Ask(parse_question(heap, word, &mut words)?),
     };
-    if !words.rest.is_empty() {
-        return Err(anyhow!("too many words"));
-    }
+    ensure!(words.rest.is_empty(), "too many words");
     Ok(command)
 }
