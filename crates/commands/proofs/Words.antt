@@ -1,16 +1,18 @@
 -- The words by their bytes.
-use Rattle.std.proofs.Common.{◌≡◌, ℕ, ◌<◌, ◌≤◌, false, eqb, List, [], length, get_or, Some, None, string_bytes, codes, Option, String, refl, sym, ap, ◌∙◌, subst, inl, inr, arith, eq-eqb, ne_eqb}
+use Rattle.std.proofs.Common.{◌≡◌, ℕ, ◌<◌, ◌≤◌, false, eqb, List, [], length, get_or, Some, None, string_bytes, codes, Option, String, refl, sym, ap, ◌∙◌, subst, inl, inr, arith, eq-eqb, ne_eqb, Ok, Err, Result}
 use Rattle.std.proofs.lemmas.Bool.{cond-true, cond-false, cases_Bool}
+use Rattle.std.specs.Result.{IsErrAnd}
 use Rattle.std.specs.Str.{bytes_eq}
 use Rattle.std.proofs.lemmas.Slice.Eq.{bytes_eq-Decides}
 use Rattle.std.proofs.lemmas.List.{length-map, get_or-map}
 use Rattle.commands.specs.declared.verb.Verb.{Verb}
 use Rattle.commands.specs.declared.verb.Verb.TheVariants as verbs
+use Rattle.commands.specs.declared.command.Command.{Command}
 use Rattle.commands.specs.declared.command.CommandError.{CommandError}
 use Rattle.commands.specs.Names.{unescaped}
 use Rattle.commands.specs.Numbers.{byte_number}
 use Rattle.commands.specs.Verbs.{verb_of}
-use Rattle.commands.specs.Commands.{Asked, extract, block, survey, help, nothing, unknown, miscounted, texts, named, numbered, placed, counted, asked_by, asked, NeedsMemory, Reports}
+use Rattle.commands.specs.Commands.{Asked, extract, block, survey, help, nothing, unknown, miscounted, texts, named, numbered, placed, counted, asked_by, asked, NeedsMemory, Reports, Answers}
 
 pub length_texts : {Z : Type 0} (ws : List (String Z)) → length (texts ws) ≡ length ws
 unfolding texts
@@ -50,29 +52,34 @@ module _ {Z : Type 0} (ws : List (String Z)) (s : String Z) (w : List ℕ) (some
   first : w ≡ get_or (texts ws) 0 []
   first = text_at ws 0 s w some is text
 
-  asked_so : (o : Option Verb) → o ≡ verb_of w → asked (texts ws) ≡ asked_by o (texts ws)
+  pub asked_so : (o : Option Verb) → o ≡ verb_of w → asked_by o (texts ws) ≡ asked (texts ws)
   unfolding asked
   asked_so o e =
       let more : length (texts ws) ≡ 0 → ⊥ = omega (arith, length_texts ws) in
-      cond-false (eqb (length (texts ws)) 0) nothing (asked_by (verb_of (get_or (texts ws) 0 [])) (texts ws)) (ne_eqb (length (texts ws)) 0 more)
-      ∙ ap (λ (v : Option Verb). asked_by v (texts ws)) (sym (e ∙ ap verb_of first))
+      ap (λ (v : Option Verb). asked_by v (texts ws)) (e ∙ ap verb_of first)
+      ∙ sym (cond-false (eqb (length (texts ws)) 0) nothing (asked_by (verb_of (get_or (texts ws) 0 [])) (texts ws)) (ne_eqb (length (texts ws)) 0 more))
 
-  pub unknown_so : None ≡ verb_of w → asked (texts ws) ≡ unknown w
-  unknown_so e = asked_so None e ∙ ap (λ (x : List ℕ). unknown x) (sym first)
+  pub unknown_so : (t : List ℕ) → None ≡ verb_of w → t ≡ string_bytes s → asked (texts ws) ≡ unknown t
+  unknown_so t e f = sym (asked_so None e) ∙ ap (λ (x : List ℕ). unknown x) (sym (f ∙ sym text ∙ first))
 
-  -- a command's word, and as many words as it takes, or another number
-  module _ (u : Verb) (told : Some u ≡ verb_of w) where
-    pub miscounted_so : (v : Verb) → u ≡ v → (length ws ≡ words_of v → ⊥) → asked (texts ws) ≡ miscounted u
-    miscounted_so v e n =
-        let other : length (texts ws) ≡ words_of v → ⊥ = λ l. n (sym (length_texts ws) ∙ l) in
-        asked_so (Some u) told ∙ ap (λ (x : Verb). asked_by (Some x) (texts ws)) e ∙ asked_counted v (texts ws)
-        ∙ cond-false (eqb (length (texts ws)) (words_of v)) (of v (texts ws)) (miscounted v) (ne_eqb (length (texts ws)) (words_of v) other)
-        ∙ ap (λ (x : Verb). miscounted x) (sym e)
+-- as many words as a command takes, or another number
+module _ {Z : Type 0} (ws : List (String Z)) (u v : Verb) (e : u ≡ v) where
+  pub miscounted_so : (length ws ≡ words_of v → ⊥) → asked_by (Some u) (texts ws) ≡ miscounted u
+  miscounted_so n =
+      let other : length (texts ws) ≡ words_of v → ⊥ = λ l. n (sym (length_texts ws) ∙ l) in
+      ap (λ (x : Verb). asked_by (Some x) (texts ws)) e ∙ asked_counted v (texts ws)
+      ∙ cond-false (eqb (length (texts ws)) (words_of v)) (of v (texts ws)) (miscounted v) (ne_eqb (length (texts ws)) (words_of v) other)
+      ∙ ap (λ (x : Verb). miscounted x) (sym e)
 
-    pub counted_so : (v : Verb) → u ≡ v → length ws ≡ words_of v → asked (texts ws) ≡ of v (texts ws)
-    counted_so v e n =
-        asked_so (Some u) told ∙ ap (λ (x : Verb). asked_by (Some x) (texts ws)) e ∙ asked_counted v (texts ws)
-        ∙ cond-true (eqb (length (texts ws)) (words_of v)) (of v (texts ws)) (miscounted v) (eq-eqb (length (texts ws)) (words_of v) (length_texts ws ∙ n))
+  pub counted_so : length ws ≡ words_of v → asked_by (Some u) (texts ws) ≡ of v (texts ws)
+  counted_so n =
+      ap (λ (x : Verb). asked_by (Some x) (texts ws)) e ∙ asked_counted v (texts ws)
+      ∙ cond-true (eqb (length (texts ws)) (words_of v)) (of v (texts ws)) (miscounted v) (eq-eqb (length (texts ws)) (words_of v) (length_texts ws ∙ n))
+
+-- an error that is passed on
+pub refused_so : (r : Result Command CommandError) (e : CommandError) (a b : Asked) → IsErrAnd r (λ y. y ≡ e) → a ≡ b → Reports e b → Answers r a
+refused_so (Ok x) e a b never f h = absurd never
+refused_so (Err y) e a b same f h = rw (same, f) h
 
 -- what so many words ask for, by their texts
 module _ (ts : List (List ℕ)) where

@@ -2,7 +2,7 @@
 ghost use Rattle.std.specs.Prelude.{◌≡◌, ℕ, List, Some, MatchResult};
 ghost use Rattle.commands.specs.Names.{unescaped};
 ghost use Rattle.commands.specs.Numbers.{byte_number};
-ghost use Rattle.commands.specs.Commands.{Asked, texts, named, numbered, asked, NeedsMemory, Reports, Answers, error_shown};
+ghost use Rattle.commands.specs.Commands.{Asked, texts, named, numbered, asked_by, asked, NeedsMemory, Reports, Answers, error_shown};
 
 use crate::name::*;
 use crate::number::*;
@@ -64,17 +64,10 @@ fn number_of(text: &str) -> Result<u8, CommandError<'_>>
     number(text).ok_or(CommandError::BadNumber(text))
 }
 
-// What the words after the program's name ask for.
-pub fn parse(heap: Global, words: &[String]) -> Result<Command<'_>, CommandError<'_>>
-    ensures { Answers result (asked (texts words.now)) }
+// What the words ask for, of which the first is the verb's.
+fn command_of(heap: Global, verb: Verb, words: &[String]) -> Result<Command<'_>, CommandError<'_>>
+    ensures { Answers result (asked_by (Some verb) (texts words.now)) }
 {
-    let [word, ..] = words else {
-        return Err(CommandError::NoCommand);
-    };
-    let word = word.as_str();
-    let Ok(verb) = word.parse::<Verb>() else {
-        return Err(CommandError::UnknownCommand(word));
-    };
     match (verb, words) {
         (Verb::Extract, [_, image, name, out]) => Ok(Command::Extract {
             image: image.as_str(),
@@ -89,7 +82,20 @@ pub fn parse(heap: Global, words: &[String]) -> Result<Command<'_>, CommandError
             image: image.as_str(),
         }),
         (Verb::Help, [_]) => Ok(Command::Help),
-        (verb, _) => Err(CommandError::WrongCount(verb)),
+        _ => Err(CommandError::WrongCount(verb)),
+    }
+}
+
+// What the words after the program's name ask for.
+pub fn parse(heap: Global, words: &[String]) -> Result<Command<'_>, CommandError<'_>>
+    ensures { Answers result (asked (texts words.now)) }
+{
+    let [word, ..] = words else {
+        return Err(CommandError::NoCommand);
+    };
+    match word.as_str().parse() {
+        Ok(verb) => command_of(heap, verb, words),
+        Err(NoVerb) => Err(CommandError::UnknownCommand(word.as_str())),
     }
 }
 

@@ -37,6 +37,7 @@ impl<T: Drop> From<AllocFailed<T>> for NameError {
 }
 
 // The byte of two hexadecimal digits of either case.
+#[tactic(auto, using(crate::proofs::Names::no_digit, crate::proofs::Names::a_digit), unfolding(crate::specs::Names::hex_pair))]
 fn hex_pair(high: u8, low: u8) -> Option<u8>
     ensures { result ≡ hex_pair high low }
 {
@@ -57,6 +58,7 @@ fn first_byte(text: &[u8]) -> Option<(u8, &[u8])>
 }
 
 // Whether the text stands for bytes.
+#[tactic(auto, using(crate::proofs::Names::look_so, crate::proofs::Names::looked_so))]
 fn is_spelled(text: &[u8]) -> bool
     ensures { result ≡ is_some (unescaped text.now) }
 {
@@ -68,6 +70,7 @@ fn is_spelled(text: &[u8]) -> bool
 }
 
 // The bytes that the text stands for. A bad text is refused before any memory is asked for.
+#[tactic(auto, using(crate::proofs::Names::step_so, crate::proofs::Names::end_so))]
 pub fn name_bytes(heap: Global, text: &str) -> Result<Vec<u8>, NameError>
     ensures { MatchResult result (λ name. unescaped text.now ≡ Some name.items) (λ e. e ≡ why_not (unescaped text.now)) }
 {

@@ -28,6 +28,7 @@ impl FromStr for Verb {
 
     ghost from_str_gives = { λ word verb. result_ok verb ≡ verb_of word };
 
+    #[tactic(auto, using(crate::proofs::Words::no_verb), unfolding(crate::specs::Verbs::verb_of))]
     fn from_str(word: &str) -> Result<Verb, NoVerb> {
         match word {
             "extract" => Ok(Verb::Extract),
