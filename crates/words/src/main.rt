@@ -10,25 +10,24 @@ use std::io;
 
 // The words of a line; an empty line has none.
 fn words_of(heap: Global, line: &str) -> anyhow::Result<Vec<String>> {
-    let mut words = Vec::new(heap);
     if line.is_empty() {
-        return Ok(words);
+        return Ok(Vec::new(heap));
     }
-    for word in line.split('|') {
-        words.push(String::from_str(heap, word)?)?;
-    }
-    Ok(words)
+    let words = line.split('|').map(|word| String::from_str(heap, word));
+    Ok(words.try_collect(heap)?)
 }
 
 fn tell(rt: &HostRuntime, command: Command<'_>) -> anyhow::Result<()> {
     match command {
         Command::Extract { image, name, out } => {
-            let text = name.text;
-            let bytes = HexLine(name.bytes.as_slice());
+            let Name { text, bytes } = name;
+            let bytes = HexLine(bytes.as_slice());
             println!(rt; "  image [{image}] name [{text}] = [{bytes}] out [{out}]")?;
         }
-        Command::Block { image, place } => {
-            let (track, sector) = place;
+        Command::Block {
+            image,
+            place: (track, sector),
+        } => {
             println!(rt; "  image [{image}] track {track} sector {sector}")?;
         }
         Command::Survey { image } => println!(rt; "  image [{image}]")?,
