@@ -1,6 +1,5 @@
 -- One step of a look at a typed name.
-use Rattle.std.proofs.Common.{◌≡◌, ℕ, ◌-◌, ◌<◌, ◌≤◌, Bool, true, false, cond, eqb, List, [], ◌∷◌, ◌++◌, length, get_or, take, drop, is_some, Some, None, Option, sym, refl, ap, ◌∙◌, subst, append_assoc, append-nil, arith}
-use Rattle.std.proofs.lemmas.List.{take_rest}
+use Rattle.std.proofs.Common.{◌≡◌, ℕ, ◌<◌, Bool, true, false, cond, eqb, List, [], ◌∷◌, ◌++◌, length, is_some, Some, None, Option, sym, refl, ap, ◌∙◌, subst, append_assoc, append-nil, arith}
 use Rattle.std.proofs.lemmas.Bool.{false≢true}
 use Rattle.std.proofs.lemmas.Bool.Decides.{nat_tests}
 use Rattle.std.specs.Char.{digit_value}
@@ -12,13 +11,6 @@ no_digit b c e n = subst (λ (x : ℕ). hex_value x ≡ None) e (let here : digi
 
 pub a_digit : (b c d : ℕ) → c ≡ b → (digit_value c < 16) × (d ≡ digit_value c) → hex_value b ≡ Some d
 a_digit b c d e h = subst (λ (x : ℕ). hex_value x ≡ Some d) e (grind (arith, nat_tests))
-
--- a slice's pattern names the rest of a text by its length
-pub plain_byte : (t : List ℕ) → 0 < length t → (get_or t 0 0 ≡ 92 → ⊥) → Some (get_or t 0 0, take (length t - 1) (drop 1 t)) ≡ first_byte t
-plain_byte t h n = rw take_rest (grind (arith, nat_tests))
-
-pub escaped_byte : (t : List ℕ) (b : ℕ) → 4 ≤ length t → get_or t 0 0 ≡ 92 → get_or t 1 0 ≡ 120 → Some b ≡ hex_pair (get_or t 2 0) (get_or t 3 0) → Some (b, take (length t - 4) (drop 4 t)) ≡ first_byte t
-escaped_byte t b h slash x e = rw (take_rest, ← e) (grind (arith, nat_tests))
 
 -- a first byte, before what the text after it stands for
 abbrev pub going_on : Option (ℕ × List ℕ) → Option (List ℕ)

@@ -69,7 +69,8 @@ fn is_spelled(text: &[u8]) -> bool
     rest.is_empty()
 }
 
-// The bytes that the text stands for. A bad text is refused before any memory is asked for.
+// The bytes that the text stands for. A bad text is refused before any memory is asked for, so it is walked
+// twice; both walks go by first_byte, since an iterator of bytes does not tell a bad end from the end.
 #[tactic(auto, using(crate::proofs::Names::step_so, crate::proofs::Names::end_so))]
 pub fn name_bytes(heap: Global, text: &str) -> Result<Vec<u8>, NameError>
     ensures { MatchResult result (λ name. unescaped text.now ≡ Some name.items) (λ e. e ≡ why_not (unescaped text.now)) }

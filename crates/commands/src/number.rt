@@ -10,5 +10,5 @@ pub fn number(text: &str) -> Option<u8>
     if text.starts_with('+') {
         return None;
     }
-    text.parse::<u8>().ok()
+    text.parse().ok()
 }
