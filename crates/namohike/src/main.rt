@@ -66,14 +66,11 @@ fn survey_disk<'a>(rt: &HostRuntime, image: &'a str) -> Result<(), Failure<'a>> 
             print_refusal(rt, &disk, place)?;
         }
     }
-    let read = findings
-        .iter()
-        .filter(|finding| finding.number == 0)
-        .count();
     let refused = findings
         .iter()
         .filter(|finding| finding.number != 0)
         .count();
+    let read = BLOCKS - refused;
     println!(rt; "{}", Tally { read, refused })?;
     Ok(())
 }
@@ -100,10 +97,10 @@ fn run<'a>(rt: &HostRuntime, words: &'a [String]) -> Result<(), Failure<'a>> {
 }
 
 fn words_given(rt: &HostRuntime) -> io::Result<Vec<String>> {
-    let words = env::args(rt)?.skip(1).collect(rt.alloc())?;
-    Ok(words)
+    Ok(env::args(rt)?.skip(1).collect(rt.alloc())?)
 }
 
+// A failure is told, and ends the program with status 1.
 fn exit_with(rt: &HostRuntime, outcome: Result<(), Failure<'_>>) -> ExitCode {
     match outcome {
         Ok(()) => ExitCode::SUCCESS,
