@@ -12,6 +12,9 @@ verb_of w =
     (cond (bytes_eq w (codes "survey")) (Some Survey)
     (cond (bytes_eq w (codes "--help")) (Some Help) None)))
 
+abbrev pub no_verb_shown : List ℕ
+no_verb_shown = codes "no such command"
+
 abbrev pub usage_of : Verb → List ℕ
 usage_of Extract = codes "extract IMAGE NAME OUT"
 usage_of Block = codes "block IMAGE TRACK SECTOR"

@@ -1,8 +1,9 @@
 // The words that commands begin with.
 ghost use Rattle.std.specs.Prelude.{◌≡◌, Some};
 ghost use Rattle.std.specs.Result.{result_ok};
-ghost use Rattle.commands.specs.Verbs.{verb_of, usage_of, usage_shown};
+ghost use Rattle.commands.specs.Verbs.{verb_of, no_verb_shown, usage_of, usage_shown};
 
+use std::error::Error;
 use std::fmt;
 use std::str::FromStr;
 
@@ -22,6 +23,16 @@ impl Verb {
 // A word that no command begins with.
 #[derive(Clone, Copy, Debug, PartialEq, Eq)]
 pub struct NoVerb;
+
+impl fmt::Display for NoVerb {
+    ghost output = { λ _. Some no_verb_shown };
+
+    fn fmt<W: fmt::Write>(&self, f: &mut fmt::Formatter<W>) -> fmt::Result {
+        write!(f, "no such command")
+    }
+}
+
+impl Error for NoVerb {}
 
 impl FromStr for Verb {
     type Err = NoVerb;
