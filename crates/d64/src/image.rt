@@ -68,9 +68,7 @@ impl D64 {
     fn begin_of(&self, place: Place) -> Result<usize, Refusal>
         ensures { result ≡ begin_of self.now.image.items place }
     {
-        let Some(index) = block_index(place) else {
-            return Err(fault_at(Cause::NoSuchBlock, place));
-        };
+        let index = block_index(place).ok_or(fault_at(Cause::NoSuchBlock, place))?;
         if self.image.len() != LENGTH {
             return Err(fault_at(Cause::NoHeader, place));
         }

@@ -16,7 +16,7 @@ pub struct Refusal {
 }
 
 impl Refusal {
-    // A fault of an image file, at no block.
+    // A fault of an image file, at no block. One maker for each layer: its name is no longer than the layer as an argument, and no other layer can be given.
     pub fn by_image(cause: Cause) -> Self
         ensures { result ≡ by_image cause }
     {

@@ -1,4 +1,4 @@
-// Where the tracks lie in a file, and whether it is an image.
+// Where the tracks lie in a file, and whether it is an image. Functions of a file and a track, since `are_apart` compares two tracks of one file and `is_clear` runs over all: a type for the pair would be made anew at each call.
 ghost use Rattle.std.specs.Prelude.{◌≡◌, ◌<◌, ◌≤◌};
 ghost use Rattle.g64.specs.Layout.{offset_of, length_of, extent_of, headed, inside, apart, all_inside, clear, all_clear, valid};
 
@@ -8,17 +8,15 @@ use std::ops::Range;
 // What the file's own table says of where a track begins, in which 0 stands for a track without bits; `extent_of` turns that into an `Option`.
 #[tactic(auto, unfolding(crate::specs::Layout::offset_of))]
 pub(crate) fn offset_of(file: &[u8], track: u8) -> usize
-    requires { 1 ≤ track }
     ensures value { result ≡ offset_of file.now track }
     ensures small { result < 4294967296 }
 {
-    read32(file, 12 + 4 * (2 * (track as usize - 1)))
+    read32(file, 12 + 8 * usize::from(track.saturating_sub(1)))
 }
 
 // How many bytes a track has, its two bytes of length not counted.
 #[tactic(auto, unfolding(crate::specs::Layout::length_of))]
 pub(crate) fn length_of(file: &[u8], track: u8) -> usize
-    requires { 1 ≤ track }
     ensures value { result ≡ length_of file.now track }
     ensures small { result < 65536 }
 {
@@ -28,7 +26,6 @@ pub(crate) fn length_of(file: &[u8], track: u8) -> usize
 // Where a track that has bits lies, its two bytes of length first.
 #[tactic(auto, unfolding(crate::specs::Layout::length_of))]
 pub(crate) fn extent_of(file: &[u8], track: u8) -> Option<Range<usize>>
-    requires { 1 ≤ track }
     ensures { result ≡ extent_of file.now track }
 {
     match offset_of(file, track) {
@@ -47,7 +44,6 @@ fn has_head(file: &[u8]) -> bool
 // Whether a track, if it has bits, keeps to the room after the tables and to the largest size.
 #[tactic(auto, unfolding(crate::specs::Layout::inside))]
 fn is_inside(file: &[u8], track: u8) -> bool
-    requires { 1 ≤ track }
     ensures { result ≡ inside file.now track }
 {
     let Some(extent) = extent_of(file, track) else {
@@ -60,8 +56,6 @@ fn is_inside(file: &[u8], track: u8) -> bool
 // Whether two tracks, if both have bits, share no byte.
 #[tactic(auto, unfolding(crate::specs::Layout::apart))]
 fn are_apart(file: &[u8], track: u8, other: u8) -> bool
-    requires track { 1 ≤ track }
-    requires other { 1 ≤ other }
     ensures { result ≡ apart file.now track other }
 {
     let (Some(a), Some(b)) = (extent_of(file, track), extent_of(file, other)) else {
@@ -70,7 +64,7 @@ fn are_apart(file: &[u8], track: u8, other: u8) -> bool
     a.end <= b.start || b.end <= a.start
 }
 
-// Whether all tracks keep to that room.
+// Whether all tracks keep to that room. A line like `are_clear`'s, no longer than a call of one function of both would be.
 fn are_inside(file: &[u8]) -> bool
     ensures { result ≡ all_inside file.now }
 {
@@ -79,8 +73,7 @@ fn are_inside(file: &[u8]) -> bool
 
 // Whether no later track shares a byte with this one.
 fn is_clear(file: &[u8], track: u8) -> bool
-    requires least { 1 ≤ track }
-    requires most { track ≤ 35 }
+    requires { track ≤ 35 }
     ensures { result ≡ clear file.now track }
 {
     (track + 1..36).all(|other| are_apart(file, track, other))

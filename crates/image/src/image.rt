@@ -23,7 +23,7 @@ use sector::source::*;
 use track::medium::*;
 use track::source::*;
 
-// Blocks in place order, or a capture of track bits, read through the aligner.
+// Blocks in place order, or a capture of track bits, read through the aligner. An enum, since there are two kinds for good, and a `dyn` value would lie on the heap.
 // The kinds are these two and no caller adds one, so each method matches; a `dyn` value in their place would stand on the heap.
 #[derive(Drop)]
 pub enum Image {
@@ -31,7 +31,7 @@ pub enum Image {
     Capture(Decoder<Aligner<G64>>),
 }
 
-// Whether a file begins as captures do.
+// Whether a file begins as captures do; g64's check asks for two bytes more.
 pub fn is_capture(file: &[u8]) -> bool
     ensures { result ≡ is_capture file.now }
 {

@@ -56,10 +56,7 @@ fn print_block<'a>(rt: &HostRuntime, image: &'a str, place: Place) -> Result<(),
 // A line for each refused block, in place order, and how many there are.
 fn survey_disk<'a>(rt: &HostRuntime, image: &'a str) -> Result<(), Failure<'a>> {
     let disk = read_disk(rt, image)?;
-    let mut findings = [Finding {
-        number: 0,
-        layer: 0,
-    }; BLOCKS];
+    let mut findings = [Finding::default(); BLOCKS];
     survey(&disk, &mut findings)?;
     for (place, finding) in (0..BLOCKS).filter_map(block_place).zip(findings.iter()) {
         if finding.number != 0 {

@@ -8,7 +8,7 @@ use disk::place::*;
 use disk::refusal::*;
 use sector::source::*;
 
-// Number and layer of a block's refusal, or zeros for a block that reads.
+// Number and layer of a block's refusal, or zeros for a block that reads: numbers and no `Option`, since that is how the survey's table is laid down.
 #[derive(Clone, Copy, Debug, Default, PartialEq, Eq)]
 pub struct Finding {
     pub number: u8,

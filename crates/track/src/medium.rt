@@ -19,6 +19,7 @@ pub trait TrackMedium: TrackSource {
     fn is_protected(&self) -> bool
         ensures { result ≡ protected self.now };
 
+    // `start` stands beside the strip, since a medium may lay the same strip elsewhere than it was asked to.
     // Puts the bits of `strip` on a track's circle, from bit `start` on and round its end. No other bit of any track changes.
     fn lay(&mut self, track: u8, start: usize, strip: Strip<'_>) -> Result<(), Refusal>
         ensures answer { result ≡ lay_result (protected self.old) (length (Self.TrackSource.circle self.old track)) track start strip.entry.count (length strip.entry.bytes.now) }

@@ -53,6 +53,7 @@ fn try_block(heap: Global, disk: &D64, place: Place) -> Result<String, AllocErro
     }
 }
 
+// The disk and the name stay apart in these three, as in the calls that they try.
 fn try_locate(heap: Global, disk: &D64, name: &[u8]) -> Result<String, AllocError> {
     match locate(disk, name) {
         Ok(Located { at, entry }) => {
