@@ -1,5 +1,6 @@
 -- What `all` over a range of tracks answers.
-use Rattle.std.proofs.Common.{◌≡◌, ℕ, suc, zero, ◌+◌, ◌-◌, ◌<◌, ◌≤◌, Bool, true, false, List, length, Option, refl, sym, ◌∙◌, subst, arith}
+use Rattle.std.proofs.Common.{◌≡◌, ℕ, suc, zero, ◌+◌, ◌-◌, ◌<◌, ◌≤◌, Bool, true, false, ◌&&◌, List, length, Option, refl, sym, ap, ◌∙◌, subst, arith}
+use Rattle.std.proofs.Math.Bool.{and-false}
 use denote.Param.Members.{Mut}
 use Rattle.std.proofs.iter.Yields.{nat_range_steps}
 use Rattle.std.proofs.lemmas.Bool.{true≢false}
@@ -37,6 +38,17 @@ by_each test n a false h =
     let len = length-range_with_len a n in
     let u : h.0 < n = omega (arith, h.1) in
     sym (failed test n a (a + h.0) (omega arith) (omega arith) (subst (λ (x : ℕ). test x ≡ false) (get_or-range_with_len a n h.0 0 u) (h.2 0)))
+
+-- two looks in one
+both : (p q e f : Bool) → ((p && q) && (e && f)) ≡ ((p && e) && (q && f))
+both true true e f = refl
+both true false e f = sym (and-false e)
+both false q e f = refl
+
+pub both_each : (p q : ℕ → Bool) (n a : ℕ) → each (λ t. p t && q t) n a ≡ (each p n a && each q n a)
+unfolding each
+both_each p q zero a = refl
+both_each p q (suc n) a = ap (λ (e : Bool). (p a && q a) && e) (both_each p q n (a + 1)) ∙ both (p a) (q a) (each p n (a + 1)) (each q n (a + 1))
 
 -- a closure that answers what the test does, asked of n tracks from a on
 module _ {F : Type 0} {g : Mut F (ℕ × Unit {0}) Bool} {s : Range ℕ} (u : Range ℕ) (f : F) (test : ℕ → Bool) (n a : ℕ) (r : Bool)

@@ -1,5 +1,5 @@
 // Where the tracks lie in a file, and whether it is an image. Functions of a file and a track, since `are_apart` compares two tracks of one file and `is_clear` runs over all: a type for the pair would be made anew at each call.
-ghost use Rattle.std.specs.Prelude.{◌≡◌, ◌<◌, ◌≤◌};
+ghost use Rattle.std.specs.Prelude.{◌≡◌, ◌<◌, ◌≤◌, ◌&&◌};
 ghost use Rattle.g64.specs.Layout.{offset_of, length_of, extent_of, headed, inside, apart, all_inside, clear, all_clear, valid};
 
 use crate::number::*;
@@ -64,13 +64,6 @@ fn are_apart(file: &[u8], track: u8, other: u8) -> bool
     a.end <= b.start || b.end <= a.start
 }
 
-// Whether all tracks keep to that room. A line like `are_clear`'s, no longer than a call of one function of both would be.
-fn are_inside(file: &[u8]) -> bool
-    ensures { result ≡ all_inside file.now }
-{
-    (1..36).all(|track| is_inside(file, track))
-}
-
 // Whether no later track shares a byte with this one.
 fn is_clear(file: &[u8], track: u8) -> bool
     requires { track ≤ 35 }
@@ -79,11 +72,11 @@ fn is_clear(file: &[u8], track: u8) -> bool
     (track + 1..36).all(|other| are_apart(file, track, other))
 }
 
-// Whether no two tracks share a byte.
-fn are_clear(file: &[u8]) -> bool
-    ensures { result ≡ all_clear file.now }
+// Whether all tracks keep to that room, and no two share a byte.
+fn all_fit(file: &[u8]) -> bool
+    ensures { result ≡ (all_inside file.now && all_clear file.now) }
 {
-    (1..36).all(|track| is_clear(file, track))
+    (1..36).all(|track| is_inside(file, track) && is_clear(file, track))
 }
 
 // Whether the file is an image.
@@ -91,9 +84,5 @@ fn are_clear(file: &[u8]) -> bool
 pub(crate) fn is_valid(file: &[u8]) -> bool
     ensures { result ≡ valid file.now }
 {
-    file.len() >= 684
-        && has_head(file)
-        && read16(file, 10) <= 7928
-        && are_inside(file)
-        && are_clear(file)
+    file.len() >= 684 && has_head(file) && read16(file, 10) <= 7928 && all_fit(file)
 }

@@ -37,7 +37,8 @@ impl TrackMedium for G64 {
 
     fn lay(&mut self, track: u8, start: usize, strip: Strip<'_>) -> Result<(), Refusal> {
         let size = self.bits_on(track);
-        lay_check(self.protected, size, track, start, strip.count, strip.bytes.len())?;
+        let Strip { bytes, count } = strip;
+        lay_check(self.protected, size, track, start, count, bytes.len())?;
         lay_stored(self.image.as_mut_slice(), track, start, strip);
         Ok(())
     }
