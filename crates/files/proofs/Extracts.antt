@@ -56,8 +56,11 @@ module _ {d : Disk} {name : List ℕ} {c : Chain} {n : ℕ} (h : Held d name c n
       let m : measured d name ≡ Ok (record { bytes = length (bytes_of d (c.places.items, c.block)); blocks = length c.places.items }) = rw (sym h.is) in
       sym (m ∙ (λ i. Ok (record { bytes = sym (b ∙ h.many) i; blocks = sym k i })))
 
-  pub fills : (room : ℕ) → n ≤ room → Fills d c n room
-  fills room f = let s = h.size in record { readable = h.readable; low = omega arith; high = h.high; fits = f }
+  pub fills : (old : List ℕ) → n ≤ length old → Fills d c (length (take n old))
+  fills old l =
+      let s = h.size in
+      let k = length-take-le n old l in
+      record { readable = h.readable; low = omega arith; high = omega (arith, h.high) }
 
   pub too_long : (room : ℕ) → room < n → Err (by_caller ShortBuffer) ≡ extract_answer d name room
   too_long room l =
@@ -74,7 +77,8 @@ module _ {d : Disk} {name : List ℕ} {c : Chain} {n : ℕ} (h : Held d name c n
       let t = le-ltb room (length (bytes_of d (c.places.items, c.block))) (omega (arith, h.many)) in
       ap (λ (k : ℕ). Ok k) h.many ∙ sym (rw (sym h.is, t))
 
-  pub filled_so : (old new : List ℕ) → n ≤ length old → new ≡ take n (all_data d c.places.items) ++ drop n old → new ≡ extract_buffer d name old
-  filled_so old new l s =
+  pub filled_so : (old part : List ℕ) → n ≤ length old → part ≡ take (length (take n old)) (all_data d c.places.items) → part ++ drop n old ≡ extract_buffer d name old
+  filled_so old part l s =
       let t = le-ltb (length old) (length (bytes_of d (c.places.items, c.block))) (omega (arith, h.many)) in
-      s ∙ (λ i. take (h.size i) (all_data d c.places.items) ++ drop (h.many i) old) ∙ sym (rw (sym h.is, t))
+      let k : length (take n old) ≡ size_of (c.places.items, c.block) = length-take-le n old l ∙ h.size in
+      (λ i. (s ∙ ap (λ (j : ℕ). take j (all_data d c.places.items)) k) i ++ drop (h.many i) old) ∙ sym (rw (sym h.is, t))

@@ -60,15 +60,15 @@ module _ (d : Disk) where
       ∙ ap (take n) (data_is (get_or ps k (0, 0)) b e)
 
   -- one more block is copied
-  pub copied_more : (ps : List Place) (k total : ℕ) (old buf b : List ℕ) → AllByRecursion (Readable d) ps → k < length ps → 254 * k ≤ total → total ≤ 254 * length ps → total ≤ length old → loaded d (get_or ps k (0, 0)) ≡ Ok b →
-      buf ≡ take (min (254 * k) total) (all_data d ps) ++ drop (min (254 * k) total) old →
-      take (254 * k) buf ++ (take (min (total - 254 * k) 254) (drop 2 b) ++ drop (254 * k + min (total - 254 * k) 254) buf) ≡ take (min (254 * (k + 1)) total) (all_data d ps) ++ drop (min (254 * (k + 1)) total) old
-  copied_more ps k total old buf b a h low high fits e inv =
-      let n : ℕ = min (total - 254 * k) 254 in
-      let here : min (254 * k) total ≡ 254 * k = omega arith in
-      let next : min (254 * (k + 1)) total ≡ 254 * k + min (total - 254 * k) 254 = omega arith in
+  pub copied_more : (ps : List Place) (k : ℕ) (old buf b : List ℕ) → AllByRecursion (Readable d) ps → k < length ps → 254 * k ≤ length old → length old ≤ 254 * length ps → length buf ≡ length old → loaded d (get_or ps k (0, 0)) ≡ Ok b →
+      buf ≡ take (min (254 * k) (length old)) (all_data d ps) ++ drop (min (254 * k) (length old)) old →
+      take (254 * k) buf ++ (take (min (length buf - 254 * k) 254) (drop 2 b) ++ drop (254 * k + min (length buf - 254 * k) 254) buf) ≡ take (min (254 * (k + 1)) (length old)) (all_data d ps) ++ drop (min (254 * (k + 1)) (length old)) old
+  copied_more ps k old buf b a h low high same e inv =
+      let n : ℕ = min (length buf - 254 * k) 254 in
+      let here : min (254 * k) (length old) ≡ 254 * k = omega arith in
+      let next : min (254 * (k + 1)) (length old) ≡ 254 * k + min (length buf - 254 * k) 254 = omega arith in
       let l = all_length ps a in
-      let small : min (total - 254 * k) 254 ≤ 254 = omega arith in
+      let small : min (length buf - 254 * k) 254 ≤ 254 = omega arith in
       let i : buf ≡ take (254 * k) (all_data d ps) ++ drop (254 * k) old = inv ∙ ap (λ (j : ℕ). take j (all_data d ps) ++ drop j old) here in
       ap (λ (x : List ℕ). take (254 * k) buf ++ (x ++ drop (254 * k + n) buf)) (sym (data_at k n ps b a h small e))
       ∙ taken_up (all_data d ps) old buf (254 * k) n i (omega arith) (omega arith)

@@ -59,9 +59,8 @@ extract_buffer d name old = overlaid (extracted d name) old
 abbrev pub Readable : Disk → Place → Type 0
 Readable d p = (b : List ℕ) × (loaded d p ≡ Ok b) × (length b ≡ 256)
 
--- a chain that holds that many bytes, and a buffer that has room for them
-pub record Fills (d : Disk) (c : Chain) (total room : ℕ) : Type 0 where
+-- a chain that holds that many bytes, all its blocks but the last being full
+pub record Fills (d : Disk) (c : Chain) (total : ℕ) : Type 0 where
   pub readable : AllByRecursion (Readable d) c.places.items
   pub low : 254 * (length c.places.items - 1) ≤ total
   pub high : total ≤ 254 * length c.places.items
-  pub fits : total ≤ room

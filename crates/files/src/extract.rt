@@ -23,32 +23,32 @@ fn extent_of(chain: &Chain) -> Extent
     ensures bytes { result.bytes ≡ 254 * (length chain.now.places.items - 1) + (slice_index chain.now.block 1 - 1) }
 {
     let blocks = chain.places.len();
-    let used = (chain.block[1] as usize).saturating_sub(1);
+    let used = usize::from(chain.block[1]).saturating_sub(1);
     Extent {
         bytes: 254 * (blocks - 1) + used,
         blocks,
     }
 }
 
-// Copies what the k-th block of a file has of its first `total` bytes.
-fn copy_block(block: &[u8; 256], k: usize, total: usize, buffer: &mut [u8])
-    requires { (254 * k ≤ total) × (total ≤ length buffer.old) }
-    ensures { buffer.new ≡ take (254 * k) buffer.old ++ (take (min (total - 254 * k) 254) (drop 2 block.now) ++ drop (254 * k + min (total - 254 * k) 254) buffer.old) }
+// Copies the bytes of a file's k-th block to their place in a buffer that is as long as the file.
+fn copy_block(block: &[u8; 256], k: usize, buffer: &mut [u8])
+    requires { 254 * k ≤ length buffer.old }
+    ensures { buffer.new ≡ take (254 * k) buffer.old ++ (take (min (length buffer.old - 254 * k) 254) (drop 2 block.now) ++ drop (254 * k + min (length buffer.old - 254 * k) 254) buffer.old) }
 {
     let at = 254 * k;
-    let more = (total - at).min(254);
+    let more = (buffer.len() - at).min(254);
     buffer[at..at + more].copy_from_slice(&block[2..2 + more]);
 }
 
-// Copies the first `total` bytes of a file, whose blocks were all read before. Not over `buffer[..total].chunks_mut(254)`, after which a proof knows no byte of the buffer: tried, and the goal `returns` stays open.
+// Fills a buffer as long as a file, whose blocks were all read before, with its bytes. Not over `buffer.chunks_mut(254)`, after which a proof knows no byte of the buffer: tried, and the goal `returns` stays open.
 #[tactic(auto, using(crate::proofs::Files::copied_more))]
-fn copy_chain<D: SectorSource>(disk: &D, chain: &Chain, total: usize, buffer: &mut [u8])
-    requires { Fills (D.SectorSource.contents disk.now) chain.now total (length buffer.old) }
-    ensures { buffer.new ≡ take total (all_data (D.SectorSource.contents disk.now) chain.now.places.items) ++ drop total buffer.old }
+fn copy_chain<D: SectorSource>(disk: &D, chain: &Chain, buffer: &mut [u8])
+    requires { Fills (D.SectorSource.contents disk.now) chain.now (length buffer.old) }
+    ensures { buffer.new ≡ take (length buffer.old) (all_data (D.SectorSource.contents disk.now) chain.now.places.items) }
 {
     for (k, place) in chain.places.iter().enumerate() {
         let block = load(disk, *place).unwrap();
-        copy_block(&block, k, total, buffer);
+        copy_block(&block, k, buffer);
     }
 }
 
@@ -70,6 +70,6 @@ pub fn extract<D: SectorSource>(disk: &D, name: &[u8], buffer: &mut [u8]) -> Res
     if buffer.len() < total {
         return Err(Refusal::by_caller(Cause::ShortBuffer));
     }
-    copy_chain(disk, &chain, total, buffer);
+    copy_chain(disk, &chain, &mut buffer[..total]);
     Ok(total)
 }

@@ -17,5 +17,5 @@ laid_so a k n m block piece buffer ek em h l e =
 pub returns : goal.returns
 returns c =
     let e = c.min-more.ensures in
-    laid_so (254 * c.args.k) _ (min (c.args.total - 254 * c.args.k) 254) _ c.args.block.now c.copy_from_slice.new.self c.args.buffer.now
+    laid_so (254 * c.args.k) _ (min (length c.args.buffer.now - 254 * c.args.k) 254) _ c.args.block.now c.copy_from_slice.new.self c.args.buffer.now
     (omega arith) (omega arith) (omega arith) (omega arith) c.copy_from_slice.ensures.after
