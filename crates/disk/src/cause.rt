@@ -65,12 +65,12 @@ impl From<Cause> for u8 {
     }
 }
 
-// What happened, in a few words for a person.
-impl fmt::Display for Cause {
-    ghost output = { λ cause. Some (words_of cause) };
-
-    fn fmt<W: fmt::Write>(&self, f: &mut fmt::Formatter<W>) -> fmt::Result {
-        f.write_str(match self {
+impl Cause {
+    // What happened, in a few words for a person.
+    pub fn words(self) -> &'static str
+        ensures { result.now ≡ words_of self }
+    {
+        match self {
             Cause::NoHeader => "no header names the block",
             Cause::NoFrame => "no frame on the track",
             Cause::NoData => "no data block after the header",
@@ -94,6 +94,14 @@ impl fmt::Display for Cause {
             Cause::ShortBuffer => "the buffer is too small",
             Cause::BadSpan => "the bits do not fit the track",
             Cause::Other(_) => "refused by the device",
-        })
+        }
+    }
+}
+
+impl fmt::Display for Cause {
+    ghost output = { λ cause. Some (words_of cause) };
+
+    fn fmt<W: fmt::Write>(&self, f: &mut fmt::Formatter<W>) -> fmt::Result {
+        f.write_str(self.words())
     }
 }

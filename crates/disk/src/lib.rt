@@ -1,4 +1,4 @@
-// The words that all layers share: tracks, sectors, places, and refusals.
+// The words that all layers share: tracks, sectors, places, refusals, and files of images.
 #![tactic(auto)]
 
 pub mod bytes;

@@ -61,7 +61,7 @@ pub fn block_index(place: Place) -> Option<usize>
     Some(before + sector)
 }
 
-// The block of a number in place order.
+// The block of a number in place order; the other way round than `block_index`, by the same `match` with ranges.
 #[tactic(auto, unfolding(crate::specs::Geometry::placed_at))]
 pub fn block_place(index: usize) -> Option<Place>
     ensures { result ≡ placed_at index }

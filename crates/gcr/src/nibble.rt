@@ -13,8 +13,8 @@ pub fn nibble(code: u8) -> Option<u8>
     ensures value { result ≡ nibble_of code }
     ensures small { IfSome result (λ n. n < 16) }
 {
-    let place = CODES.iter().position(|known| code == *known)?;
-    Some(place as u8)
+    let nibble = CODES.iter().position(|known| code == *known)?;
+    Some(nibble as u8)
 }
 
 // The five-bit code of a nibble.
