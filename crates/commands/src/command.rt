@@ -86,7 +86,7 @@ fn command_of(heap: Global, verb: Verb, words: &[String]) -> Result<Command<'_>,
     }
 }
 
-// What the words after the program's name ask for.
+// What the words after the program's name ask for. A match on what `parse` answers: its error says nothing that `map_err` could turn, and either arm is one call.
 pub fn parse(heap: Global, words: &[String]) -> Result<Command<'_>, CommandError<'_>>
     ensures { Answers result (asked (texts words.now)) }
 {
