@@ -30,7 +30,7 @@ fn start_of<S: TrackSource>(source: &S, track: u8) -> u16
 }
 
 impl<S: TrackSource> Aligner<S> {
-    // Fetches each track once, for its start.
+    // Fetches each track once, for its start. Number 0 is no track, and its start is 0.
     pub fn new(source: S) -> Aligner<S>
         ensures kept { result.source ≡ source }
         ensures starts { (t : ℕ) → 1 ≤ t → t ≤ 35 → slice_index result.starts t ≡ first_start (S.TrackSource.circle source t) }

@@ -79,10 +79,10 @@ fn lines_have_sixteen_pairs(rt: HostRuntime) -> Result<(), Fail> {
 }
 
 fn words_of(heap: Global, line: &str) -> Result<Vec<String>, Fail> {
-    let mut words = Vec::new(heap);
-    for word in line.split(' ') {
-        words.push(String::from_str(heap, word)?)?;
-    }
+    let words = line
+        .split(' ')
+        .map(|word| String::from_str(heap, word))
+        .try_collect(heap)?;
     Ok(words)
 }
 

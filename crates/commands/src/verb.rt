@@ -18,6 +18,18 @@ pub enum Verb {
 
 impl Verb {
     pub const ALL: [Verb; 4] = [Verb::Extract, Verb::Block, Verb::Survey, Verb::Help];
+
+    // How the command is written, with what follows the word.
+    pub fn usage(self) -> &'static str
+        ensures { result.now ≡ usage_of self }
+    {
+        match self {
+            Verb::Extract => "extract IMAGE NAME OUT",
+            Verb::Block => "block IMAGE TRACK SECTOR",
+            Verb::Survey => "survey IMAGE",
+            Verb::Help => "--help",
+        }
+    }
 }
 
 // A word that no command begins with.
@@ -51,17 +63,12 @@ impl FromStr for Verb {
     }
 }
 
-// How the command is written.
+// Shown as it is written, with what follows the word.
 impl fmt::Display for Verb {
     ghost output = { λ v. Some (usage_of v) };
 
     fn fmt<W: fmt::Write>(&self, f: &mut fmt::Formatter<W>) -> fmt::Result {
-        match self {
-            Verb::Extract => write!(f, "extract IMAGE NAME OUT"),
-            Verb::Block => write!(f, "block IMAGE TRACK SECTOR"),
-            Verb::Survey => write!(f, "survey IMAGE"),
-            Verb::Help => write!(f, "--help"),
-        }
+        f.write_str(self.usage())
     }
 }
 

@@ -26,7 +26,7 @@ pub fn data_block(block: &[u8; 256]) -> [u8; DATA_BYTES]
 {
     let bytes = plain_bytes(block);
     let mut coded = [0; DATA_BYTES];
-    // By place: of a slice that was lent as `chunks_exact_mut`, no proof knows what it holds afterwards.
+    // By place: zipped with the chunks of `coded`, the loop names nothing that was written, and `returns` stays open.
     for (k, four) in bytes.as_chunks::<4>().0.iter().enumerate() {
         coded[5 * k..5 * k + 5].copy_from_slice(&encode_group(*four));
     }

@@ -19,7 +19,7 @@ use track::medium::*;
 use track::room::*;
 use track::source::*;
 
-// The place on its track from which on the data of a block goes, or why it may not be written.
+// The place on its track from which on the data of a block goes, or why it may not be written. Its steps are those of `read`, with the test of protection in between, so that no call would serve both.
 fn find_room<M: TrackMedium>(medium: &M, place: Place) -> Result<usize, Refusal>
     ensures { MatchResult result (λ p. (legal place ≡ true) × (M.TrackMedium.protected medium.now ≡ false) × FreeAt (M.TrackSource.circle medium.now place.0) place.0 place.1 p) (λ e. Err e ≡ allowed (decoder_answers (M.TrackMedium.protected medium.now) (M.TrackSource.circle medium.now)) place) }
 {

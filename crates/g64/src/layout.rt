@@ -1,4 +1,5 @@
-// Where the tracks lie in a file, and whether it is an image. Functions of a file and a track, since `are_apart` compares two tracks of one file and `is_clear` runs over all: a type for the pair would be made anew at each call.
+// Where the tracks lie in a file, and whether it is an image.
+// Functions of a file and a track, since `are_apart` compares two tracks of one file and `is_clear` runs over all: a type for the pair would be made anew at each call.
 ghost use Rattle.std.specs.Prelude.{◌≡◌, ◌<◌, ◌≤◌, ◌&&◌};
 ghost use Rattle.g64.specs.Layout.{offset_of, length_of, extent_of, headed, inside, apart, all_inside, clear, all_clear, valid};
 

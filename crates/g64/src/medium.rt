@@ -14,7 +14,7 @@ use laying::check::*;
 use laying::lay::*;
 use track::medium::*;
 
-// Lays bits that fit on a track; the file is still an image, and no other track changes.
+// Lays bits that fit on a track; the file is still an image, and no other track changes. By begin and length, since the track is known to have bits: `extent_of` would give an `Option` to take apart again.
 fn lay_stored(file: &mut [u8], track: u8, start: usize, strip: Strip<'_>)
     requires given { given file.old track ≡ true }
     requires fits { fits (length (circle_on file.old track)) start strip.count (length strip.bytes.now) ≡ true }

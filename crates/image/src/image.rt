@@ -23,8 +23,8 @@ use sector::source::*;
 use track::medium::*;
 use track::source::*;
 
-// Blocks in place order, or a capture of track bits, read through the aligner. An enum, since there are two kinds for good, and a `dyn` value would lie on the heap.
-// The kinds are these two and no caller adds one, so each method matches; a `dyn` value in their place would stand on the heap.
+// Blocks in place order, or a capture of track bits, read through the aligner.
+// The kinds are these two and no caller adds one, so each method matches; whoever opens an image could not be handed a `dyn` value.
 #[derive(Drop)]
 pub enum Image {
     Blocks(D64),

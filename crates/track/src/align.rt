@@ -28,9 +28,9 @@ impl<'a> Turned<'a> {
         requires { 8192 ≤ length buffer.old }
         ensures { buffer.new ≡ laid (pack (turned_bits self.now)) buffer.old }
     {
-        // By index: behind `iter_mut` the loop's invariant names no byte that was written, and `returns` stays open.
-        for k in 0..self.circle.bits.div_ceil(8) {
-            buffer[k] = self.packed_byte(k);
+        let count = self.circle.bits.div_ceil(8);
+        for (k, byte) in buffer[..count].iter_mut().enumerate() {
+            *byte = self.packed_byte(k);
         }
     }
 }

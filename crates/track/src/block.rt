@@ -44,6 +44,7 @@ impl<'a> Circle<'a> {
         let mut frames = self.frames();
         let mut data = None;
         let mut unsound = false;
+        // By `next` and no `for`, since a copy of the iterator looks at the frame that follows.
         while let Some(window) = frames.next() {
             let Some(header) = window.header() else {
                 continue;

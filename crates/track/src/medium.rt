@@ -19,8 +19,7 @@ pub trait TrackMedium: TrackSource {
     fn is_protected(&self) -> bool
         ensures { result ≡ protected self.now };
 
-    // `start` stands beside the strip, since a medium may lay the same strip elsewhere than it was asked to.
-    // Puts the bits of `strip` on a track's circle, from bit `start` on and round its end. No other bit of any track changes.
+    // Puts the bits of `strip` on a track's circle, from bit `start` on and round its end. No other bit of any track changes. `start` is no part of the strip, since a medium may lay the same strip elsewhere than it was asked to.
     fn lay(&mut self, track: u8, start: usize, strip: Strip<'_>) -> Result<(), Refusal>
         ensures answer { result ≡ lay_result (protected self.old) (length (Self.TrackSource.circle self.old track)) track start strip.entry.count (length strip.entry.bytes.now) }
         ensures circle { (u : ℕ) → Self.TrackSource.circle self.new u ≡ lay_circle (protected self.old) (Self.TrackSource.circle self.old) track start strip.entry.count strip.entry.bytes.now u }

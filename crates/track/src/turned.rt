@@ -17,7 +17,7 @@ impl<'a> Turned<'a> {
     ghost use Rattle.track.specs.Circles.{ones, before, start};
     ghost use Rattle.track.specs.Shown.{turned_bits};
 
-    // Bit `i`.
+    // Bit `i`. By cases: a `%` would be a division for each bit that is read.
     pub(crate) fn bit(&self, i: usize) -> bool
         requires { i < self.now.circle.bits }
         ensures { result ≡ slice_index_or (turned_bits self.now) i false }
@@ -75,7 +75,7 @@ impl<'a> Circle<'a> {
         }
     }
 
-    // The first bit at which a frame begins, from bit `from` on and short of the circle's end.
+    // The first bit at which a frame begins, from bit `from` on and short of the circle's end. The closure asks for a bit of the circle, which the range gives; `turned_at` in its place leaves `returns` open.
     pub(crate) fn next_start(&self, from: usize) -> Option<usize>
         ensures { result ≡ find (λ p. start (turned p (circle_bits self.now))) (range_with_len from (self.now.bits - from)) }
     {

@@ -13,7 +13,7 @@ pub(crate) struct Window<'a> {
     ghost within: { count ≤ turned.circle.bits },
 }
 
-// What a frame says as a header: the block that it names, and whether its checksum is right.
+// What a frame says as a header: the block that it names, and whether its checksum is right. No `Result`, since an unsound header is read as well as a sound one, and is looked at for the block that it names.
 #[derive(Clone, Copy, Debug, PartialEq, Eq)]
 pub(crate) enum Header {
     Sound(Place),

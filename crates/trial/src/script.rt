@@ -99,7 +99,7 @@ impl<'a> Words<'a> {
 
     // All the rest as a name.
     fn name(&mut self, heap: Global) -> anyhow::Result<Vec<u8>> {
-        let text = mem::replace(&mut self.rest, "");
+        let text = mem::take(&mut self.rest);
         Ok(name_bytes(heap, text)?)
     }
 }
