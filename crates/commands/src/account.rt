@@ -5,7 +5,7 @@ ghost use Rattle.commands.specs.Accounts.{account_shown, tally_shown, written_sh
 use disk::place::*;
 use std::fmt;
 
-// The name is the text that the user gave.
+// The name is the text that the user gave; of what has bytes and blocks this crate knows nothing.
 #[derive(Clone, Copy, Debug)]
 pub struct Account<'a> {
     pub name: &'a str,

@@ -38,7 +38,7 @@ pub fn is_capture(file: &[u8]) -> bool
     file.starts_with(b"GCR-1541")
 }
 
-// The file of an image, where its bytes are taken for an image of its own kind: a capture or not.
+// The file of an image, where its bytes are taken for an image of its own kind: a capture, or not, as `is_capture` answers.
 fn hand_back<F: ImageFile>(image: F, capture: bool) -> Result<Vec<u8>, Refusal>
     ensures { result ≡ kept_as capture F.checked (F.bytes image) }
 {

@@ -9,7 +9,7 @@ use crate::circle::Circle;
 use crate::turned::Turned;
 
 impl<'a> Turned<'a> {
-    // The eight bits of byte `k`; past the circle's end they are zeros.
+    // The eight bits of byte `k`; past the circle's end they are zeros, where `Window::byte` asks for no bit past its frame.
     fn packed_byte(&self, k: usize) -> u8
         requires { k * 8 < self.now.circle.bits }
         ensures { pack (drop (k * 8) (turned_bits self.now)) ≡ result ∷ pack (drop (k * 8 + 8) (turned_bits self.now)) }

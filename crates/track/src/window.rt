@@ -42,6 +42,7 @@ impl<'a> Window<'a> {
         if self.count < from + 10 {
             return None;
         }
+        // Bit by bit: of a `fold` it stays open that its closure may be called with the number so far.
         let mut code = 0;
         for j in 0..10 {
             code = code * 2 + self.bit(from + j) as u16;
