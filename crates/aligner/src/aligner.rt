@@ -64,7 +64,7 @@ impl<S: TrackSource> TrackSource for Aligner<S> {
 }
 
 // Place `start` of a circle of `size` bits that is turned to begin at place `first`, as a place of the circle itself. Past the circle's end no place has another name.
-// By cases: `(first + start) % size` would need a bound on the sum, which no parameter gives.
+// By cases: `(first + start) % size` would need a bound on the sum, which no parameter gives. Not by the cases of track's `Turned::bit`, which knows that both numbers are in range and is run for each bit.
 fn place_of(size: usize, first: usize, start: usize) -> usize
     ensures { result ≡ unturned size first start }
 {

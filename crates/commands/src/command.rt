@@ -86,7 +86,7 @@ fn command_of(heap: Global, verb: Verb, words: &[String]) -> Result<Command<'_>,
     }
 }
 
-// What the words after the program's name ask for. A match on what `parse` answers: its error says nothing that `map_err` could turn, and either arm is one call.
+// What the words after the program's name ask for. By a match on what `parse` answers: with `map_err` and `?` the goals `returns` and `returns-in_err-verb` stayed open.
 pub fn parse(heap: Global, words: &[String]) -> Result<Command<'_>, CommandError<'_>>
     ensures { Answers result (asked (texts words.now)) }
 {

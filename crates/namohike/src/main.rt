@@ -59,13 +59,13 @@ fn survey_disk<'a>(rt: &HostRuntime, image: &'a str) -> Result<(), Failure<'a>> 
     let mut findings = [Finding::default(); BLOCKS];
     survey(&disk, &mut findings)?;
     for (place, finding) in (0..BLOCKS).filter_map(block_place).zip(findings.iter()) {
-        if finding.number != 0 {
+        if *finding != Finding::default() {
             print_refusal(rt, &disk, place)?;
         }
     }
     let refused = findings
         .iter()
-        .filter(|finding| finding.number != 0)
+        .filter(|finding| **finding != Finding::default())
         .count();
     let read = BLOCKS - refused;
     println!(rt; "{}", Tally { read, refused })?;

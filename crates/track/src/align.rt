@@ -14,6 +14,7 @@ impl<'a> Turned<'a> {
         requires { k * 8 < self.now.circle.bits }
         ensures { pack (drop (k * 8) (turned_bits self.now)) ≡ result ∷ pack (drop (k * 8 + 8) (turned_bits self.now)) }
     {
+        // Bit by bit, as there: of a `fold` it stays open that its closure may be called with the number so far.
         let mut code = 0;
         for j in 0..8 {
             let i = k * 8 + j;
