@@ -9,8 +9,6 @@ use Rattle.std.proofs.lemmas.Bool.{cases_lt}
 use Rattle.std.proofs.lemmas.Fmt.{decimal_digit, decimal_step}
 use Rattle.std.proofs.lemmas.Fmt as fmt
 use Rattle.std.specs.Option.{option_map}
-use Rattle.commands.specs.declared.verb.Verb.{Verb}
-use Rattle.commands.specs.Verbs.{usage_line, usage_note, usage_shown, verbs}
 use Rattle.commands.specs.Hex.{hex_byte, next_byte, hex_line}
 
 -- what `{:02}` writes of a byte
@@ -74,10 +72,3 @@ module _ {W : Type 0} (took : W → List ℕ → W → Type 0) (f g h : Formatte
 
   pub wrote_line : (bs : List ℕ) (i : ℕ) → 1 ≤ length bs → length (others bs) ≤ i → HasWritten took f (hex_byte (get_or bs 0 0)) g → HasWritten took g (flat_map next_byte (take i (others bs))) h → HasWritten took f (hex_line bs) h
   wrote_line bs i s l p q = has_written_of_eq took f _ _ h (line_all bs i s l) (has_written_append took f _ g _ h p q)
-
--- the usage: its first line, the commands, and the note
-module _ {W : Type 0} (took : W → List ℕ → W → Type 0) (f g h k : Formatter W) where
-  pub wrote_usage : (i : ℕ) → length verbs ≤ i → HasWritten took f (codes "usage:") g → HasWritten took g (flat_map usage_line (take i verbs)) h → HasWritten took h usage_note k → HasWritten took f usage_shown k
-  wrote_usage i l p q r =
-      has_written_of_eq took f _ _ k (ap (λ (vs : List Verb). codes "usage:" ++ (flat_map usage_line vs ++ usage_note)) (take_all i verbs l))
-      (has_written_append took f _ g _ k p (has_written_append took g _ h _ k q r))

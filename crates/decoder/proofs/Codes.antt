@@ -78,9 +78,6 @@ is_byte_some n (Some m) e = ap (λ (k : ℕ). Some k) (eqb-true m n e)
 byte_back : (b : ℕ) → b < 256 → byte_of (value (ten b)) ≡ Some b
 byte_back b h = is_byte_some b (byte_of (value (ten b))) (agree_below_at (λ n. is_byte n (byte_of (value (ten n)))) (λ _. true) 256 b refl h)
 
-length_ten : (b : ℕ) → length (ten b) ≡ 10
-length_ten b = refl
-
 coded_ten : (b : ℕ) (w : List Bool) → b < 256 → coded (ten b ++ w) ≡ Some b
 coded_ten b w h =
     sym (coded_long (ten b ++ w) (let e = length-append (ten b) w in omega arith))

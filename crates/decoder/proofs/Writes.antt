@@ -109,9 +109,6 @@ bits_lay b n h = lays b n (All-from_get_or (λ x. x < 256) b 0 (λ i _. h i))
 pub write_fits : (c : List Bool) (t s p : ℕ) (b : List ℕ) → length b ≡ 256 → Bytes b → FreeAt c t s p → 2600 ≤ length c
 write_fits c t s p b n h F = (found c (data_bits b) t s p b (bits_lay b n h) F).fits
 
-pub length_data_bits : (b : List ℕ) → length b ≡ 256 → Bytes b → length (data_bits b) ≡ 2600
-length_data_bits b n h = (bits_lay b n h).long
-
 pub writing : Writing data_bits
 writing c t s p b n h F =
     let d : List Bool = laid_on p (data_bits b) c in

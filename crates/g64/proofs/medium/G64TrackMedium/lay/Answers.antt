@@ -1,9 +1,7 @@
-use Rattle.std.proofs.Common.{◌≡◌, ℕ, Bool, cond, eqb, List, ◌++◌, length, take, drop, sym, refl, ap, ◌∙◌, subst}
+use Rattle.std.proofs.Common.{◌≡◌, ℕ, List, ◌++◌, length, take, drop, sym, ap, ◌∙◌, subst}
 use Rattle.std.proofs.lemmas.List.{take_at}
 use Rattle.disk.specs.Bytes.{Bytes}
-use Rattle.gcr.specs.Bits.{bits_of}
-use Rattle.track.specs.Laying.{laid_on, fits}
-use Rattle.laying.proofs.Lays.{lay_done}
+use Rattle.track.specs.Laying.{fits}
 use Rattle.g64.specs.Layout.{valid}
 use Rattle.g64.specs.Image.{given, circle_on}
 use Rattle.g64.proofs.Written.{accepted}
@@ -35,23 +33,4 @@ invariant_of-self c =
     record {
       small = subst Bytes (sym same) c.lay_stored.ensures.small;
       known = c.args.self.now.known ∙ (is_given f t a.has).sound_file ∙ sym (ap valid same ∙ c.lay_stored.ensures.valid);
-    }
-
-pub returns : goal.returns
-returns c =
-    let f : List ℕ = c.args.self.now.image.items in
-    let G : Bool = c.args.self.now.protected in
-    let t : ℕ = c.args.track in
-    let p : ℕ = c.args.start in
-    let n : ℕ = c.args.strip.count in
-    let bytes : List ℕ = c.args.strip.bytes.now in
-    let L : List Bool = take n (bits_of bytes) in
-    let same = lent c.args.self.now.image.len c.lay_stored.new.file f c.as_mut_slice.result.now c.lay_stored.auto.file c.as_mut_slice.ensures.len in
-    let a = accepted G f t p n (length bytes) c.bits_on-size.result c.bits_on-size.ensures c.in_ok-lay_check.ensures in
-    record {
-      answer = a.answer;
-      circle = λ u. ap (λ (x : List ℕ). circle_on x u) same ∙ c.lay_stored.ensures.circle u
-          ∙ ap (λ (x : List ℕ). cond (eqb u t) (laid_on p L (circle_on x u)) (circle_on x u)) c.as_mut_slice.ensures.value
-          ∙ lay_done G (circle_on f) t p n bytes a.answer u;
-      protected = refl;
     }
