@@ -1,4 +1,4 @@
--- Headers that name a block, and the place of its data.
+-- Headers that name a block, and the place of its data: the steps of the loop of `find`, most of which `search` cites by itself.
 use Rattle.std.proofs.Common.{◌≡◌, ℕ, ◌-◌, ◌<◌, ◌≤◌, Bool, true, false, cond, not, ◌&&◌, ◌||◌, List, [], ◌∷◌, ◌++◌, length, Some, None, Option, Result, sym, refl, ap, ◌∙◌, subst, arith}
 use Rattle.std.proofs.lemmas.Bool.{and_from, and_right, false≢true}
 use Rattle.track.specs.Circles.{turned, start, frames_from, frames}

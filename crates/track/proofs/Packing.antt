@@ -1,9 +1,9 @@
 -- Packing bits into bytes, byte by byte.
-use Rattle.std.proofs.Common.{◌≡◌, ℕ, suc, ◌+◌, ◌-◌, ◌*◌, ◌^◌, ◌<◌, ◌≤◌, Bool, false, cond, eqb, List, [], ◌∷◌, ◌++◌, length, get_or, take, drop, slice_set, sym, ap, ◌∙◌, inl, inr, arith, pow-add}
-use Rattle.std.proofs.lemmas.List.{append_assoc, append-nil, drop_more, drop_all, get_or_past, length-take, take_all, take_more_set}
+use Rattle.std.proofs.Common.{◌≡◌, ℕ, suc, ◌+◌, ◌-◌, ◌*◌, ◌^◌, ◌<◌, Bool, false, cond, eqb, List, [], ◌∷◌, ◌++◌, length, get_or, take, drop, sym, ap, ◌∙◌, inl, inr, arith, pow-add}
+use Rattle.std.proofs.lemmas.List.{drop_more, drop_all, get_or_past}
 use Rattle.std.proofs.lemmas.Bool.{cond-true, cond-false, cases_eq, cases_lt, eq-eqb, ne_eqb}
 use Rattle.gcr.specs.Bits.{and_bit}
-use Rattle.track.specs.Fetching.{pack, packed, laid}
+use Rattle.track.specs.Fetching.{pack, packed}
 
 -- what j bits that write `code`, and bits to come, are packed into; the eighth bit ends the byte
 abbrev pub begun : ℕ → ℕ → List Bool → List ℕ
@@ -55,21 +55,3 @@ begun_step l j code code' b n h e f =
 -- n bytes of a list are written, and the rest is to come
 abbrev pub Packing : List Bool → List ℕ → ℕ → Type 0
 Packing a buf n = pack a ≡ take n buf ++ pack (drop (n * 8) a)
-
--- one byte more
-pub packing_step : (a : List Bool) (buf : List ℕ) (k code : ℕ) → k < length buf → Packing a buf k → pack (drop (k * 8) a) ≡ code ∷ pack (drop (k * 8 + 8) a) → Packing a (slice_set buf k code) (k + 1)
-packing_step a buf k code h p e =
-    p ∙ ap (λ (l : List ℕ). take k buf ++ l) (e ∙ ap (λ (i : ℕ). code ∷ pack (drop i a)) (let z : k * 8 + 8 ≡ (k + 1) * 8 = omega arith in z))
-    ∙ sym (append_assoc (take k buf) (code ∷ []) (pack (drop ((k + 1) * 8) a)))
-    ∙ ap (λ (l : List ℕ). l ++ pack (drop ((k + 1) * 8) a)) (sym (take_more_set buf k code h))
-
--- all bytes are written
-pub packing_whole : (a : List Bool) (old buf : List ℕ) (n k : ℕ) → length a ≤ n * 8 → n ≤ length old → length buf ≡ length (take n old) → length (take n old) ≤ k → Packing a buf k → buf ++ drop n old ≡ laid (pack a) old
-packing_whole a old buf n k w r l h p =
-    let len : length buf ≡ n = omega (arith, length-take n old) in
-    let more : n * 8 ≤ k * 8 = omega (arith, length-take n old) in
-    let e : pack a ≡ buf =
-    p ∙ ap (λ (x : List ℕ). x ++ pack (drop (k * 8) a)) (take_all k buf (omega arith))
-    ∙ ap (λ (x : List Bool). buf ++ pack x) (drop_all (k * 8) a (omega arith))
-    ∙ append-nil buf in
-    sym (ap (λ (x : List ℕ). x ++ drop (length x) old) e ∙ ap (λ (m : ℕ). buf ++ drop m old) len)

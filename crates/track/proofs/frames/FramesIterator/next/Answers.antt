@@ -24,12 +24,6 @@ invariant_of-self c =
     let f = found_at (circle_bits s.circle) s.at (s.circle.bits - s.at) _ c.in_ok-first.ensures in
     let l = f.1 in record { placed = omega arith }
 
-pub invariant_of-turned : goal.invariant_of-turned
-invariant_of-turned c =
-    let s = c.args.self.now in
-    let f = found_at (circle_bits s.circle) s.at (s.circle.bits - s.at) _ c.in_ok-first.ensures in
-    let l = f.1 in record { placed = omega arith }
-
 pub invariant_of-result : goal.invariant_of-result
 invariant_of-result c =
     let k = c.args.self.now.circle in
