@@ -1,34 +1,19 @@
 -- What is written of bytes, piece by piece.
-use Rattle.std.proofs.Common.{◌≡◌, ℕ, ◌+◌, ◌-◌, ◌/◌, ◌%◌, ◌<◌, ◌≤◌, List, [], ◌∷◌, ◌++◌, length, get_or, take, drop, codes, decimal, false, ◌^◌, Some, Ok, Option, subst, inl, inr, append_assoc, refl, sym, ap, ◌∙◌, arith}
+use Rattle.disk.proofs.TwoDigits.{two_digits_then}
+use Rattle.std.proofs.Common.{◌≡◌, ℕ, ◌+◌, ◌-◌, ◌/◌, ◌%◌, ◌<◌, ◌≤◌, List, [], ◌∷◌, ◌++◌, length, get_or, take, drop, codes, decimal, false, ◌^◌, Some, Ok, Option, subst, refl, sym, ap, ◌∙◌, arith}
 use Rattle.std.specs.declared.fmt.Formatter.{Formatter}
 use Rattle.std.specs.List.{flat_map}
-use Rattle.std.specs.Fmt.{IsPlainFormatter, HasWritten, ◌++?◌, DisplaysOnOk, char_count, padded_integral, format_spec, styled_decimal, radix_digits}
+use Rattle.std.specs.Fmt.{IsPlainFormatter, HasWritten, ◌++?◌, DisplaysOnOk, padded_integral, format_spec, styled_decimal, radix_digits}
 use Rattle.std.proofs.Output.{writes_in_calls_nil, has_written_of_eq, has_written_append}
 use Rattle.std.proofs.lemmas.List.{flat_map_more, take_more, take_all, take_rest, nil_from_length}
-use Rattle.std.proofs.lemmas.Bool.{cases_lt}
 use Rattle.std.proofs.lemmas.Fmt.{decimal_digit, decimal_step}
 use Rattle.std.proofs.lemmas.Fmt as fmt
 use Rattle.std.specs.Option.{option_map}
 use Rattle.commands.specs.Hex.{hex_byte, next_byte, hex_line}
 
--- what `{:02}` writes of a byte
-padded_so : (n : ℕ) → n < 256 → padded_integral (format_spec 32 0 4 2 (2 ^ 64 - 1)) false [] (decimal n) ≡ decimal (n / 10) ++ decimal (n % 10)
-unfolding padded_integral char_count
-padded_so n small =
-    let last : decimal (n % 10) ≡ (48 + n % 10) ∷ [] = decimal_digit (n % 10) (omega arith) in
-    elim (cases_lt n 10) [
-      | inl one ↦ let high : n / 10 ≡ 0 = omega arith in let low : n % 10 ≡ n = omega arith in
-          rw (decimal_digit n one, high, low, decimal_digit n one, decimal_digit 0 (omega arith)) refl
-      | inr more ↦ elim (cases_lt n 100) [
-        | inl two ↦ let first : decimal (n / 10) ≡ (48 + n / 10) ∷ [] = decimal_digit (n / 10) (omega arith) in
-            rw (decimal_step n more (omega arith), last, first) refl
-        | inr three ↦ let first : decimal (n / 10 / 10) ≡ (48 + n / 10 / 10) ∷ [] = decimal_digit (n / 10 / 10) (omega arith) in
-            rw (decimal_step n more (omega arith), decimal_step (n / 10) (omega arith) (omega arith), last, first) refl
-      ]
-    ]
-
+-- what `{:02}` writes of a byte, and what follows
 two_digits : (n : ℕ) (rest : List ℕ) → n < 256 → styled_decimal (format_spec 32 0 4 2 (2 ^ 64 - 1)) n ++ rest ≡ decimal (n / 10) ++ (decimal (n % 10) ++ rest)
-two_digits n rest small = ap (λ (l : List ℕ). l ++ rest) (padded_so n small) ∙ append_assoc (decimal (n / 10)) (decimal (n % 10)) rest
+two_digits n rest small = sym (two_digits_then n rest (omega arith))
 
 pub place_so : (track sector : ℕ) (rest : List ℕ) → track < 256 → sector < 256 → styled_decimal (format_spec 32 0 4 2 (2 ^ 64 - 1)) track ++ (codes "/" ++ (styled_decimal (format_spec 32 0 4 2 (2 ^ 64 - 1)) sector ++ rest)) ≡ decimal (track / 10) ++ (decimal (track % 10) ++ (codes "/" ++ (decimal (sector / 10) ++ (decimal (sector % 10) ++ rest))))
 place_so track sector rest h k =
