@@ -1,8 +1,6 @@
-use Rattle.std.proofs.Common.{◌≡◌, ℕ, zero, suc, ◌+◌, ◌-◌, ◌*◌, ◌<◌, ◌≤◌, Bool, false, cond, not, eqb, ltb, List, [], ◌∷◌, ◌++◌, length, get_or, drop, Some, None, Ok, Err, Option, sym, refl, ap, ◌∙◌, subst, inl, inr, arith}
+use Rattle.std.proofs.Common.{◌≡◌, ℕ, zero, suc, ◌+◌, ◌-◌, ◌*◌, ◌<◌, ◌≤◌, Bool, false, cond, not, eqb, ltb, List, [], ◌∷◌, ◌++◌, length, get_or, drop, Some, None, Ok, Err, Option, sym, refl, ap, ◌∙◌, inl, inr, arith}
 use Rattle.std.proofs.lemmas.List.{length-append, drop-drop, take_at, get_or_at, get_or_append_left}
 use Rattle.std.proofs.lemmas.Bool.{cond-false, le-ltb, eqb-true, not-false, false≢true, cases_lt}
-use Rattle.std.specs.Fn.{Mut, Called}
-use Rattle.std.specs.Array.{IsFromFnResultFrom}
 use Rattle.std.specs.Option.{option_eq}
 use Rattle.track.specs.Headers.{byte_at}
 use Rattle.track.specs.Reading.{summed, data_of, is_data}
@@ -59,19 +57,6 @@ bytes_read f s xs n h e =
       | inr a ↦ (let z : k ≡ 256 = omega arith in
           ap (λ (i : ℕ). Some (get_or (xs ++ s ∷ []) i 0)) z ∙ ap (λ (x : ℕ). Some x) (get_or_at xs s [] 0 256 n) ∙ e ∙ ap (λ (i : ℕ). byte_at f (1 + i)) (sym z))
     ])
-
--- the codes that a closure read one after the other
-pub codes_read : {F : Type 0} (g : Mut F (ℕ × Unit {0}) (Option ℕ)) (f : List Bool) (p : F) (ys : List (Option ℕ)) (i n : ℕ)
-    → ((k : ℕ) (y : Option ℕ) (q : F) → Called g p (k, tt) y q → (q ≡ p) × (y ≡ byte_at f (k + 1)))
-    → IsFromFnResultFrom g p ys i n → (k : ℕ) → i ≤ k → k < i + n → (d : Option ℕ) → get_or ys k d ≡ byte_at f (k + 1)
-codes_read g f p ys i zero h r k a b d = absurd (omega arith)
-codes_read g f p ys i (suc n) h r k a b d =
-    let s = h i r.1 r.0 r.3 in
-    elim (cases_lt i k) [
-      | inl l ↦ codes_read g f p ys (i + 1) n h (subst (λ (o : _). IsFromFnResultFrom g o ys (i + 1) n) s.0 r.4) k (omega arith) (omega arith) d
-      | inr l ↦ (let z : k ≡ i = omega arith in
-          ap (λ (j : ℕ). get_or ys j d) z ∙ r.2.1 d ∙ s.1 ∙ ap (λ (j : ℕ). byte_at f (j + 1)) (sym z))
-    ]
 
 pub summed_is : (xs : List ℕ) (s : ℕ) → length xs ≡ 256 → summed (Some (xs ++ s ∷ [])) ≡ cond (eqb (xor_all xs) s) (Ok xs) (Err BadChecksum)
 summed_is xs s n =

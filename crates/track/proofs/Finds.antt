@@ -1,10 +1,10 @@
 -- Headers that name a block, and the place of its data: the steps of the loop of `find`, most of which `search` cites by itself.
-use Rattle.std.proofs.Common.{◌≡◌, ℕ, ◌-◌, ◌<◌, ◌≤◌, Bool, true, false, cond, not, ◌&&◌, ◌||◌, List, [], ◌∷◌, ◌++◌, length, Some, None, Option, Result, sym, refl, ap, ◌∙◌, subst, arith}
+use Rattle.std.proofs.Common.{◌≡◌, ℕ, suc, ◌-◌, ◌<◌, ◌≤◌, Bool, true, false, cond, not, ◌&&◌, ◌||◌, List, [], ◌∷◌, ◌++◌, length, Some, None, Option, Result, sym, refl, ap, ◌∙◌, subst, arith}
 use Rattle.std.proofs.lemmas.Bool.{and_from, and_right, false≢true}
 use Rattle.track.specs.Circles.{turned, start, frames_from, frames}
 use Rattle.track.specs.Headers.{header, place_is, sound_head, unsound_head, byte_at}
 use Rattle.track.specs.Reading.{head_or, sought, at, missing}
-use Rattle.track.proofs.Seeks.{seeking, seek_miss, seek_first, seek_some, kept}
+use Rattle.track.proofs.Seeks.{seeking, seek_start, seek_miss, seek_first, seek_some, kept}
 use Rattle.disk.specs.declared.cause.Cause.{Cause}
 use Rattle.disk.specs.declared.cause.Cause.TheVariants.{BadHeader, NoHeader, TwoHeaders}
 use Rattle.track.specs.declared.window.Header.{Header}
@@ -63,6 +63,10 @@ module _ (t s : ℕ) (h : Header) {o : Option (Bool × (ℕ × ℕ))} (e : Some 
         sym (ap (sound_head t s) e) ∙ ap (λ x. x.0 && place_is t s x.1) d ∙ and_right b (place_is t s p) no,
         sym (ap (unsound_head t s) e) ∙ ap (λ x. not x.0 && place_is t s x.1) d ∙ and_right (not b) (place_is t s p) no,
       )
+
+-- a frame that is no header
+pub named_none : (t s : ℕ) {o : Option (Bool × (ℕ × ℕ))} → None ≡ o → (sound_head t s o ≡ false) × (unsound_head t s o ≡ false)
+named_none t s e = (sym (ap (sound_head t s) e), sym (ap (unsound_head t s) e))
 
 -- the first frame follows the last
 pub place_round : (c : List Bool) (t s w : ℕ) → w < length c → start (turned w c) ≡ true → frames_from c 0 w ≡ [] → sound_head t s (header (last_or [] (frames c))) ≡ true → Placed c t s w
@@ -163,6 +167,58 @@ module _ {c : List Bool} {t s : ℕ} {first : Window} {o : Option Window} {u : B
         round = n.stays ∙ S.round;
         known = a.1;
       }
+
+-- where a search stands that has looked one frame ahead: `r` is what came after the frames up to those of `before`
+pub record Ahead (c : List Bool) (t s : ℕ) (first : Window) (o : Option Window) (u : Bool) (r : Option Window) (f : Frames) : Type 0 where
+  pub before : Frames
+  pub seek : Seek c t s first o u before
+  pub gives : GivesNext before r f
+
+-- how many frames are left to be looked at
+abbrev pub left : Option Window → Frames → ℕ
+left None f = 0
+left (Some w) f = suc (length (rest f))
+
+fewer : (f f' : Frames) (r : Option Window) → GivesNext f r f' → left r f' < suc (length (rest f))
+fewer f f' None g = omega arith
+fewer f f' (Some w) g = let e = ap length g.shows in omega arith
+
+pub ahead_fewer : (r r' : Option Window) (f f' : Frames) (x : Window) → r ≡ Some x → GivesNext f r' f' → left r' f' < left r f
+ahead_fewer r r' f f' x e g = subst (λ (q : Option Window). left r' f' < left q f) (sym e) (fewer f f' r' g)
+
+-- the search begins: the first frame has come
+pub ahead_start : (c : List Bool) (t s : ℕ) (f f' : Frames) (first : Window) → rest f ≡ frames c → whole f ≡ c → Next f first f' → Ahead c t s first None false (Some first) f'
+ahead_start c t s f f' first e w n =
+    record {
+      before = f;
+      seek = record {
+        seeks = seek_start t s (shown first) (rest f') (frames c) (sym e ∙ n.shows) ∙ ap (seeking t s (shown first) None false) (sym e);
+        round = w;
+        known = tt;
+      };
+      gives = n;
+    }
+
+came : {c : List Bool} {t s : ℕ} {first : Window} {o : Option Window} {u : Bool} {r : Option Window} {f : Frames} {x : Window} (A : Ahead c t s first o u r f) → r ≡ Some x → Next A.before x f
+came {f = f} A e = subst (λ (q : Option Window). GivesNext A.before q f) e A.gives
+
+-- x is looked at, and r' comes next
+module _ {c : List Bool} {t s : ℕ} {first : Window} {o : Option Window} {u : Bool} {r r' : Option Window} {f f' : Frames} {x : Window} (A : Ahead c t s first o u r f) (e : r ≡ Some x) (g : GivesNext f r' f') where
+  step : {o' : Option Window} {v : Bool} → Seek c t s first o' v f → Ahead c t s first o' v r' f'
+  step S = record { before = f; seek = S; gives = g }
+
+  pub ahead_other : (sound_head t s (header (shown x)) ≡ false) × (unsound_head t s (header (shown x)) ≡ false) → Ahead c t s first o u r' f'
+  ahead_other h = step (seek_other A.seek (came A e) h)
+
+  pub ahead_unsound : (sound_head t s (header (shown x)) ≡ false) × (unsound_head t s (header (shown x)) ≡ true) → Ahead c t s first o true r' f'
+  ahead_unsound h = step (seek_unsound A.seek (came A e) h)
+
+  pub ahead_found : (w : Window) → First c first → sound_head t s (header (shown x)) ≡ true → false ≡ is_some o → w ≡ unwrap_or r' first → Ahead c t s first (Some w) u r' f'
+  ahead_found w F h l m = step (seek_found A.seek (came A e) w r' f' F h l g m)
+
+pub ahead_second : {c : List Bool} {t s : ℕ} {first : Window} {o : Option Window} {u : Bool} {r : Option Window} {f : Frames} {x : Window}
+    → Ahead c t s first o u r f → r ≡ Some x → sound_head t s (header (shown x)) ≡ true → true ≡ is_some o → sought (frames c) t s ≡ missing TwoHeaders
+ahead_second A e h i = seek_second A.seek (came A e) h i
 
 -- what the search answers once all frames have come
 pub seek_done : {c : List Bool} {t s : ℕ} {first : Window} {u : Bool} {f : Frames} (o : Option Window) (n : ℕ) (e : Cause) (r : Result Window Cause)

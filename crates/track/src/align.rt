@@ -1,6 +1,6 @@
 // Turning a circle: the first place right after a sync, and the bits written out from a place on.
-ghost use Rattle.std.specs.Prelude.{◌≡◌, ℕ, ◌+◌, ◌*◌, ◌<◌, ◌≤◌, ◌∷◌, length, drop};
-ghost use Rattle.track.specs.Circles.{turned};
+ghost use Rattle.std.specs.Prelude.{◌≡◌, ℕ, ◌+◌, ◌*◌, ◌<◌, ◌≤◌, ◌∷◌, min, length, drop};
+ghost use Rattle.track.specs.Circles.{circle_of, turned};
 ghost use Rattle.track.specs.Fetching.{pack, laid};
 ghost use Rattle.track.specs.Aligning.{first_start, pack_buffer};
 ghost use Rattle.track.specs.Shown.{circle_bits, turned_bits};
@@ -57,4 +57,19 @@ impl<'a> Circle<'a> {
             turned.pack(buffer);
         }
     }
+}
+
+// The first place right after a sync, or 0, of any bytes and any number of bits.
+pub fn first_start(track: &[u8], bits: usize) -> usize
+    ensures place { result ≡ first_start (circle_of (min bits 65536) track.now) }
+    ensures small { result < 65536 }
+{
+    Circle::new(track, bits).first_start()
+}
+
+// Writes the circle of any bytes and any number of bits, turned to begin at bit `first`, as the method of that name does.
+pub fn pack_turned(track: &[u8], bits: usize, first: usize, buffer: &mut [u8])
+    ensures { buffer.new ≡ pack_buffer (turned first (circle_of (min bits 65536) track.now)) buffer.old }
+{
+    Circle::new(track, bits).pack_turned(first, buffer)
 }

@@ -11,7 +11,8 @@ pub struct Circle<'a> {
 }
 
 impl<'a> Circle<'a> {
-    ghost use Rattle.std.specs.Prelude.{◌≡◌, min};
+    ghost use Rattle.std.specs.Prelude.{◌≡◌, ◌<◌, false, min, slice_index_or};
+    ghost use Rattle.gcr.specs.Bits.{bits_of};
     ghost use Rattle.track.specs.Circles.{circle_of};
     ghost use Rattle.track.specs.Shown.{circle_bits};
 
@@ -21,5 +22,13 @@ impl<'a> Circle<'a> {
     {
         let held = bits.min(65536).min(bytes.len().min(8192) * 8);
         Circle { bytes, bits: held }
+    }
+
+    // Bit `at` of the circle's bytes. By index, where gcr's `bit_at` asks for each bit whether the bytes have it: a circle's do.
+    pub(crate) fn bit(&self, at: usize) -> bool
+        requires { at < self.now.bits }
+        ensures { result ≡ slice_index_or (bits_of self.now.bytes.now) at false }
+    {
+        (self.bytes[at / 8] >> (7 - at % 8)) % 2 == 1
     }
 }

@@ -1,8 +1,8 @@
 // Tracks as circles of bits: sources of them, frames, headers and data blocks.
 #![tactic(auto)]
 
-mod align;
-mod block;
+pub mod align;
+pub mod block;
 pub mod circle;
 mod frames;
 pub mod laws;

@@ -1,6 +1,6 @@
 // Where on its track a block is written.
-ghost use Rattle.std.specs.Prelude.{◌≡◌, Err, MatchResult};
-ghost use Rattle.track.specs.Circles.{frames};
+ghost use Rattle.std.specs.Prelude.{◌≡◌, min, Err, MatchResult};
+ghost use Rattle.track.specs.Circles.{circle_of, frames};
 ghost use Rattle.track.specs.Room.{room_for, FreeAt};
 ghost use Rattle.track.specs.Shown.{circle_bits};
 
@@ -25,4 +25,11 @@ impl<'a> Circle<'a> {
         }
         Ok(window.turned.first)
     }
+}
+
+// The same from any bytes and any number of bits.
+pub fn data_start(track: &[u8], bits: usize, wanted: Place) -> Result<usize, Cause>
+    ensures { MatchResult result (λ p. FreeAt (circle_of (min bits 65536) track.now) wanted.0 wanted.1 p) (λ e. room_for (frames (circle_of (min bits 65536) track.now)) wanted.0 wanted.1 ≡ Err e) }
+{
+    Circle::new(track, bits).data_start(wanted)
 }

@@ -2,7 +2,6 @@
 ghost use Rattle.std.specs.Prelude.{ℕ, ◌<◌};
 
 use crate::circle::Circle;
-use gcr::single::*;
 
 // The bits of `circle` from bit `first` on, round its end.
 #[derive(Clone, Copy)]
@@ -24,9 +23,9 @@ impl<'a> Turned<'a> {
     {
         let left = self.circle.bits - i;
         if self.first < left {
-            bit_at(self.circle.bytes, self.first + i)
+            self.circle.bit(self.first + i)
         } else {
-            bit_at(self.circle.bytes, self.first - left)
+            self.circle.bit(self.first - left)
         }
     }
 

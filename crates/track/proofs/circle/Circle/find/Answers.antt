@@ -1,23 +1,39 @@
-use Rattle.std.proofs.Common.{Bool, cond, sym, ap, ◌∙◌}
-use Rattle.track.specs.Shown.{said, circle_bits}
-use Rattle.track.proofs.Circles.{length_bits}
-use Rattle.track.proofs.Finds.{is_first, named_sound, seek_found, seek_done}
+use Rattle.std.proofs.Common.{Bool, sym, ap, subst, Option}
+use Rattle.track.specs.Shown.{said, circle_bits, GivesNext}
+use Rattle.track.proofs.Finds.{Ahead, is_first, named_none, named_sound, named_unsound, named_other, ahead_start, ahead_found, ahead_other, ahead_unsound}
+use Rattle.track.specs.declared.window.Window.{Window}
 use Rattle.track.proofs.circle.Circle.find.Goals as goal
-use Rattle.track.proofs.circle.Circle.find.Goals.{then-unsound, else-unsound}
-use Rattle.disk.specs.declared.cause.Cause.TheVariants.{BadHeader, NoHeader}
+use Rattle.track.proofs.circle.Circle.find.Goals.{in-Sound+else-eq, in-Unsound, in-Unsound+else-eq-2}
 
-pub loop-window-preserved-then-eq : goal.loop-window-preserved-then-eq
-loop-window-preserved-then-eq c =
-    seek_found c.loop-window.invariant c.in-Some.ensures.steps c.unwrap_or.result c.next-in-Sound.result c.next-in-Sound.new.self
-    (is_first (circle_bits c.args.self.now) c.frames.result c.next.new.self c.in_ok-first.first c.next.result c.frames.ensures.whole c.frames.ensures.passed c.next.ensures.steps c.in_ok-first.ensures.ok_part)
+pub loop-coming-init : goal.loop-coming-init
+loop-coming-init c =
+    ahead_start (circle_bits c.args.self.now) c.args.wanted.0 c.args.wanted.1 c.frames-frames.result c.next.new.self c.in_ok-first.first c.frames-frames.ensures.rest c.frames-frames.ensures.whole
+    (subst (λ (x : Option Window). GivesNext c.frames-frames.result x c.next.new.self) c.in_ok-first.ensures.ok_part c.next.ensures.steps)
+
+pub loop-coming-preserved-in_default-header : goal.loop-coming-preserved-in_default-header
+loop-coming-preserved-in_default-header c =
+    ahead_other c.loop-coming.invariant c.in-Some.is c.next-coming.ensures.steps (named_none c.args.wanted.0 c.args.wanted.1 c.in_default-header.ensures)
+
+pub loop-coming-preserved-in-Sound : goal.loop-coming-preserved-in-Sound
+loop-coming-preserved-in-Sound c =
+    ahead_found c.loop-coming.invariant c.in-Some.is c.next-coming-in-Sound.ensures.steps c.unwrap_or.result
+    (is_first (circle_bits c.args.self.now) c.frames-frames.result c.next.new.self c.in_ok-first.first c.next.result c.frames-frames.ensures.whole c.frames-frames.ensures.passed c.next.ensures.steps c.in_ok-first.ensures.ok_part)
     (named_sound c.args.wanted.0 c.args.wanted.1 c.in-Some-header.header c.in-Some-header.ensures (ap said c.in-Sound.is) c.in-Sound.place-is c.if-eq.ensures)
-    c.if-is_some.ensures c.next-in-Sound.ensures.steps c.unwrap_or.ensures
+    c.if-is_some.ensures c.unwrap_or.ensures
 
-pub returns : goal.returns
-returns c =
-    seek_done c.loop-window.data c.args.self.now.bits c.if-unsound.ok_or c.ok_or-2.result c.loop-window.invariant c.in_default.ensures.steps (length_bits c.args.self.now)
-    (elim c.if-unsound.branch [
-      | then-unsound w ↦ w.ok_or-is ∙ ap (λ (b : Bool). cond b BadHeader NoHeader) (sym w.if-unsound.true)
-      | else-unsound w ↦ w.ok_or-is ∙ ap (λ (b : Bool). cond b BadHeader NoHeader) (sym w.if-unsound.false)
-    ])
-    c.ok_or-2.ensures.value
+pub loop-coming-preserved : goal.loop-coming-preserved
+loop-coming-preserved c =
+    elim c.match-header-2.branch [
+      | in-Sound+else-eq w ↦ subst still (sym w.unsound-is)
+          (ahead_other c.loop-coming.invariant c.in-Some.is c.next-coming-in-Some.ensures.steps
+          (named_other c.args.wanted.0 c.args.wanted.1 c.in-Some-header.header c.in-Some-header.ensures (ap said w.in-Sound.is) w.in-Sound.place-is w.if-eq.ensures))
+      | in-Unsound w ↦ subst still (sym w.unsound-is)
+          (ahead_unsound c.loop-coming.invariant c.in-Some.is c.next-coming-in-Some.ensures.steps
+          (named_unsound c.args.wanted.0 c.args.wanted.1 c.in-Some-header.header c.in-Some-header.ensures (ap said w.in-Unsound.is) w.in-Unsound.place-is w.if-eq-2.ensures))
+      | in-Unsound+else-eq-2 w ↦ subst still (sym w.unsound-is)
+          (ahead_other c.loop-coming.invariant c.in-Some.is c.next-coming-in-Some.ensures.steps
+          (named_other c.args.wanted.0 c.args.wanted.1 c.in-Some-header.header c.in-Some-header.ensures (ap said w.in-Unsound.is) w.in-Unsound.place-is w.if-eq-2.ensures))
+    ]
+  where
+    still : Bool → Type 0
+    still u = Ahead (circle_bits c.args.self.now) c.args.wanted.0 c.args.wanted.1 c.in_ok-first.first c.loop-coming.data u c.next-coming-in-Some.result c.next-coming-in-Some.new.self

@@ -10,7 +10,7 @@ returns-then-self-left c =
     let t = c.args.self.now in
     let k = t.circle in
     let n = length_bits k in
-    c.bit_at.ensures
+    c.bit.ensures
     ∙ sym (get_or-take k.bits (bits_of k.bytes.now) (t.first + c.args.i) false (omega arith))
     ∙ sym (getD_turned_low t.first (circle_bits k) c.args.i false (omega arith))
 
@@ -19,7 +19,7 @@ returns-else-self-left c =
     let t = c.args.self.now in
     let k = t.circle in
     let n = length_bits k in
-    c.bit_at-else-self-left.ensures
+    c.bit-else-self-left.ensures
     ∙ sym (get_or-take k.bits (bits_of k.bytes.now) (t.first - (k.bits - c.args.i)) false (omega arith))
     ∙ ap (λ (j : ℕ). get_or (circle_bits k) j false)
     (let e : t.first - (k.bits - c.args.i) ≡ t.first + c.args.i - length (circle_bits k) = omega arith in e)
