@@ -1,5 +1,5 @@
 // Following blocks from link to link, over any source.
-ghost use Rattle.std.specs.Prelude.{◌≡◌};
+ghost use Rattle.std.specs.Prelude.{◌≡◌, ◌<◌, ◌≤◌, length, IfOk};
 ghost use Rattle.chains.specs.Sets.{holds};
 ghost use Rattle.chains.specs.Chains.{visited, chain_of};
 ghost use Rattle.chains.specs.Told.{told};
@@ -41,7 +41,8 @@ pub fn follow<D: SectorSource>(
     from: Place,
     first: Place,
 ) -> Result<Chain, Refusal>
-    ensures { told result ≡ chain_of (D.SectorSource.contents disk.now) route.now from first }
+    ensures value { told result ≡ chain_of (D.SectorSource.contents disk.now) route.now from first }
+    ensures within { IfOk result (λ c. (0 < length c.places.items) × (length c.places.items ≤ 683)) }
 {
     // Beside `places` for speed: with `places.contains` in its stead, which proves too, extracting a file of 664 blocks takes eight times as long.
     let mut met = PlaceSet::new();

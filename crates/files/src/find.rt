@@ -1,5 +1,5 @@
 // From a name to its entry and its chain.
-ghost use Rattle.std.specs.Prelude.{◌≡◌};
+ghost use Rattle.std.specs.Prelude.{◌≡◌, ◌<◌, ◌≤◌, length, IfOk};
 ghost use Rattle.files.specs.Found.{last_of, located, closed_at, file_chain};
 ghost use Rattle.chains.specs.Told.{told};
 
@@ -56,7 +56,8 @@ fn check_closed(found: &Located) -> Result<(), Refusal>
 // The blocks of the closed file of the name.
 #[tactic(auto, unfolding(crate::specs::Found::file_chain))]
 pub fn find_file<D: SectorSource>(disk: &D, name: &[u8]) -> Result<Chain, Refusal>
-    ensures { told result ≡ file_chain (D.SectorSource.contents disk.now) name.now }
+    ensures value { told result ≡ file_chain (D.SectorSource.contents disk.now) name.now }
+    ensures within { IfOk result (λ c. (0 < length c.places.items) × (length c.places.items ≤ 683)) }
 {
     let found = locate(disk, name)?;
     check_closed(&found)?;

@@ -13,4 +13,4 @@ loop-preserved g c =
 pub returns : goal.returns
 returns g c =
     let v = c.longest-end.ensures.value in
-    ap Err c.by_volume.ensures ∙ turn_end c.loop.invariant (omega arith)
+    record { value = ap Err c.by_volume.ensures ∙ turn_end c.loop.invariant (omega arith); within = tt }
