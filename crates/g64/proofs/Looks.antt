@@ -1,6 +1,5 @@
 -- What `all` over a range of tracks answers.
-use Rattle.std.proofs.Common.{◌≡◌, ℕ, suc, zero, ◌+◌, ◌-◌, ◌<◌, ◌≤◌, Bool, true, false, ◌&&◌, List, length, Option, refl, sym, ap, ◌∙◌, subst, arith}
-use Rattle.std.proofs.Math.Bool.{and-false}
+use Rattle.std.proofs.Common.{◌≡◌, ℕ, suc, zero, ◌+◌, ◌-◌, ◌<◌, ◌≤◌, Bool, true, false, List, length, Option, refl, sym, ◌∙◌, subst, arith, ◌&&◌, ap}
 use denote.Param.Members.{Mut}
 use Rattle.std.proofs.iter.Yields.{nat_range_steps}
 use Rattle.std.proofs.lemmas.Bool.{true≢false}
@@ -15,7 +14,7 @@ use Rattle.std.specs.declared.ops.Range.{Range}
 use Rattle.g64.specs.Layout.{each}
 use Rattle.g64.specs.Tracks.{each_one}
 
-passed : (test : ℕ → Bool) (n a : ℕ) → ((i : ℕ) → a ≤ i → i < a + n → test i ≡ true) → each test n a ≡ true
+pub passed : (test : ℕ → Bool) (n a : ℕ) → ((i : ℕ) → a ≤ i → i < a + n → test i ≡ true) → each test n a ≡ true
 unfolding each
 passed test zero a h = refl
 passed test (suc n) a h = rw (h a (omega arith) (omega arith)) (passed test n (a + 1) (λ i l u. h i (omega arith) (omega arith)))
@@ -26,6 +25,11 @@ failed test n a i l u h = go (each test n a) refl
     go : (r : Bool) → each test n a ≡ r → each test n a ≡ false
     go true e = absurd (true≢false (sym (each_one test n a i e l u) ∙ h))
     go false e = e
+
+pub each_same : (p q : ℕ → Bool) (n a : ℕ) → ((i : ℕ) → p i ≡ q i) → each p n a ≡ each q n a
+unfolding each
+each_same p q zero a h = refl
+each_same p q (suc n) a h = ap (λ (b : Bool). b && each p n (a + 1)) (h a) ∙ ap (λ (b : Bool). q a && b) (each_same p q n (a + 1) h)
 
 by_each : (test : ℕ → Bool) (n a : ℕ) (r : Bool) → MatchBool r (AllWithin (λ x. test x ≡ true) (range_with_len a n) 0 (length (range_with_len a n))) ((k : ℕ) × (k < length (range_with_len a n)) × HoldsAt (λ x. test x ≡ false) (range_with_len a n) k) → r ≡ each test n a
 by_each test n a true h =
@@ -38,17 +42,6 @@ by_each test n a false h =
     let len = length-range_with_len a n in
     let u : h.0 < n = omega (arith, h.1) in
     sym (failed test n a (a + h.0) (omega arith) (omega arith) (subst (λ (x : ℕ). test x ≡ false) (get_or-range_with_len a n h.0 0 u) (h.2 0)))
-
--- two looks in one
-both : (p q e f : Bool) → ((p && q) && (e && f)) ≡ ((p && e) && (q && f))
-both true true e f = refl
-both true false e f = sym (and-false e)
-both false q e f = refl
-
-pub both_each : (p q : ℕ → Bool) (n a : ℕ) → each (λ t. p t && q t) n a ≡ (each p n a && each q n a)
-unfolding each
-both_each p q zero a = refl
-both_each p q (suc n) a = ap (λ (e : Bool). (p a && q a) && e) (both_each p q n (a + 1)) ∙ both (p a) (q a) (each p n (a + 1)) (each q n (a + 1))
 
 -- a closure that answers what the test does, asked of n tracks from a on
 module _ {F : Type 0} {g : Mut F (ℕ × Unit {0}) Bool} {s : Range ℕ} (u : Range ℕ) (f : F) (test : ℕ → Bool) (n a : ℕ) (r : Bool)

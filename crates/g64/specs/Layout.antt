@@ -50,6 +50,11 @@ inside f t = offset_of f t == 0 || (nat_le 684 (offset_of f t) && (nat_le (lengt
 unfoldable pub apart : List ℕ → ℕ → ℕ → Bool
 apart f t u = offset_of f t == 0 || (offset_of f u == 0 || (nat_le (end_of f t) (offset_of f u) || nat_le (end_of f u) (offset_of f t)))
 
+-- the same of a track that lies at x, and of one that lies at y or has no bits
+abbrev pub apart_from : Range ℕ → Option (Range ℕ) → Bool
+apart_from x None = true
+apart_from x (Some y) = nat_le x.end y.start || nat_le y.end x.start
+
 -- n tracks from t on pass
 unfoldable pub each : (ℕ → Bool) → ℕ → ℕ → Bool
 each test zero t = true

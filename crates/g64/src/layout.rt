@@ -1,7 +1,7 @@
 // Where the tracks lie in a file, and whether it is an image.
-// Functions of a file and a track, since `are_apart` compares two tracks of one file and `is_clear` runs over all: a type for the pair would be made anew at each call.
+// Functions of a file and a track, since `is_clear` looks at one track and runs over all later ones: a type for the pair would be made anew at each call.
 ghost use Rattle.std.specs.Prelude.{◌≡◌, ◌<◌, ◌≤◌, ◌&&◌};
-ghost use Rattle.g64.specs.Layout.{offset_of, length_of, extent_of, headed, inside, apart, all_inside, clear, all_clear, valid};
+ghost use Rattle.g64.specs.Layout.{offset_of, length_of, extent_of, headed, inside, apart_from, all_inside, clear, all_clear, valid};
 
 use crate::number::*;
 use std::ops::Range;
@@ -54,30 +54,33 @@ fn is_inside(file: &[u8], track: u8) -> bool
     684 <= extent.start && extent.len() <= 2 + largest && extent.end <= file.len()
 }
 
-// Whether two tracks, if both have bits, share no byte.
-#[tactic(auto, unfolding(crate::specs::Layout::apart))]
-fn are_apart(file: &[u8], track: u8, other: u8) -> bool
-    ensures { result ≡ apart file.now track other }
+// Whether a track that lies there and another one, if that has bits, share no byte.
+fn is_apart(file: &[u8], own: &Range<usize>, other: u8) -> bool
+    ensures { result ≡ apart_from own.now (extent_of file.now other) }
 {
-    let (Some(a), Some(b)) = (extent_of(file, track), extent_of(file, other)) else {
-        return true;
-    };
-    a.end <= b.start || b.end <= a.start
+    match extent_of(file, other) {
+        Some(extent) => own.end <= extent.start || extent.end <= own.start,
+        None => true,
+    }
 }
 
-// Whether no later track shares a byte with this one.
+// Whether no later track shares a byte with this one, which is looked up once for all of them.
 fn is_clear(file: &[u8], track: u8) -> bool
     requires { track ≤ 35 }
     ensures { result ≡ clear file.now track }
 {
-    (track + 1..36).all(|other| are_apart(file, track, other))
+    let Some(own) = extent_of(file, track) else {
+        return true;
+    };
+    (track + 1..36).all(|other| is_apart(file, &own, other))
 }
 
 // Whether all tracks keep to that room, and no two share a byte.
+// Two looks, not one: a file that is cut short is refused before any two tracks are compared.
 fn all_fit(file: &[u8]) -> bool
     ensures { result ≡ (all_inside file.now && all_clear file.now) }
 {
-    (1..36).all(|track| is_inside(file, track) && is_clear(file, track))
+    (1..36).all(|track| is_inside(file, track)) && (1..36).all(|track| is_clear(file, track))
 }
 
 // Whether the file is an image.

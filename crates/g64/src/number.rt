@@ -1,15 +1,12 @@
 // Numbers in a file, low byte first; past the file's end stand zeros.
-ghost use Rattle.std.specs.Prelude.{◌≡◌, ℕ, ◌+◌, ◌^◌, ◌<◌, slice_index};
+ghost use Rattle.std.specs.Prelude.{◌≡◌, ◌^◌, ◌<◌, slice_index};
 ghost use Rattle.g64.specs.Layout.{number16, number32};
 
-use std::array;
-
-// The bytes from a place on.
-fn bytes_at<const N: usize>(file: &[u8], at: usize) -> [u8; N]
-    requires { at + N < 2 ^ 34 }
-    ensures { (k : ℕ) → k < N → slice_index result k ≡ slice_index file.now (at + k) }
+// One byte.
+fn byte_at(file: &[u8], at: usize) -> u8
+    ensures { result ≡ slice_index file.now at }
 {
-    array::from_fn(|k| file.get(at + k).copied().unwrap_or(0))
+    file.get(at).copied().unwrap_or(0)
 }
 
 // Two bytes as a number.
@@ -19,15 +16,20 @@ pub(crate) fn read16(file: &[u8], at: usize) -> usize
     ensures value { result ≡ number16 file.now at }
     ensures small { result < 65536 }
 {
-    u16::from_le_bytes(bytes_at(file, at)) as usize
+    u16::from_le_bytes([byte_at(file, at), byte_at(file, at + 1)]) as usize
 }
 
-// Four bytes as a number. Beside `read16`, since std reads each size by a function of its own.
+// Four bytes as a number. Beside `read16`, since std reads each size by a function of its own; both byte by byte, since an array that a closure fills took the check four times as long.
 #[tactic(auto, unfolding(crate::specs::Layout::number16, crate::specs::Layout::number32))]
 pub(crate) fn read32(file: &[u8], at: usize) -> usize
     requires { at < 2 ^ 32 }
     ensures value { result ≡ number32 file.now at }
     ensures small { result < 4294967296 }
 {
-    u32::from_le_bytes(bytes_at(file, at)) as usize
+    u32::from_le_bytes([
+        byte_at(file, at),
+        byte_at(file, at + 1),
+        byte_at(file, at + 2),
+        byte_at(file, at + 3),
+    ]) as usize
 }
