@@ -1,4 +1,6 @@
 // Why the program does not do what it was asked.
+ghost use Rattle.namohike.specs.Failures.{failure_shown};
+
 use commands::command::CommandError;
 use commands::verb::Usage;
 use disk::refusal::Refusal;
@@ -17,6 +19,8 @@ pub enum Failure<'a> {
 }
 
 impl fmt::Display for Failure<'_> {
+    ghost output = { failure_shown };
+
     fn fmt<W: fmt::Write>(&self, f: &mut fmt::Formatter<W>) -> fmt::Result {
         match self {
             Failure::Refused(refusal) => write!(f, "{refusal}"),
