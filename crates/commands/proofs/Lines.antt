@@ -1,15 +1,14 @@
 -- What is written of bytes, piece by piece.
 use Rattle.disk.proofs.TwoDigits.{two_digits_then}
-use Rattle.std.proofs.Common.{◌≡◌, ℕ, ◌+◌, ◌-◌, ◌/◌, ◌%◌, ◌<◌, ◌≤◌, List, [], ◌∷◌, ◌++◌, length, get_or, take, drop, codes, decimal, false, ◌^◌, Some, Ok, Option, subst, refl, sym, ap, ◌∙◌, arith}
+use Rattle.std.proofs.Common.{◌≡◌, ℕ, ◌+◌, ◌-◌, ◌/◌, ◌%◌, ◌<◌, ◌≤◌, List, [], ◌∷◌, ◌++◌, length, get_or, take, drop, codes, decimal, ◌^◌, sym, ap, ◌∙◌, arith}
+use lib.Utf8.{encode}
 use Rattle.std.specs.declared.fmt.Formatter.{Formatter}
 use Rattle.std.specs.List.{flat_map}
-use Rattle.std.specs.Fmt.{IsPlainFormatter, HasWritten, ◌++?◌, DisplaysOnOk, padded_integral, format_spec, styled_decimal, radix_digits}
+use Rattle.std.specs.Fmt.{IsPlainFormatter, HasWritten, format_spec, styled_decimal}
 use Rattle.std.proofs.Output.{writes_in_calls_nil, has_written_of_eq, has_written_append}
 use Rattle.std.proofs.lemmas.List.{flat_map_more, take_more, take_all, take_rest, nil_from_length}
-use Rattle.std.proofs.lemmas.Fmt.{decimal_digit, decimal_step}
-use Rattle.std.proofs.lemmas.Fmt as fmt
-use Rattle.std.specs.Option.{option_map}
-use Rattle.commands.specs.Hex.{hex_byte, next_byte, hex_line}
+use Rattle.std.proofs.lemmas.Str.{encode_ascii}
+use Rattle.commands.specs.Hex.{hex_digit, hex_byte, next_byte, hex_line}
 
 -- what `{:02}` writes of a byte, and what follows
 two_digits : (n : ℕ) (rest : List ℕ) → n < 256 → styled_decimal (format_spec 32 0 4 2 (2 ^ 64 - 1)) n ++ rest ≡ decimal (n / 10) ++ (decimal (n % 10) ++ rest)
@@ -19,18 +18,9 @@ pub place_so : (track sector : ℕ) (rest : List ℕ) → track < 256 → sector
 place_so track sector rest h k =
     two_digits track _ h ∙ ap (λ (l : List ℕ). decimal (track / 10) ++ (decimal (track % 10) ++ (codes "/" ++ l))) (two_digits sector rest k)
 
--- what `{:02x}` writes of a byte
-pub byte_so : (o : Option (List ℕ)) (b : ℕ) → o ≡ Some (radix_digits 16 false b) → b < 256 → option_map (padded_integral (format_spec 32 0 4 2 (2 ^ 64 - 1)) false []) o ≡ Some (hex_byte b)
-byte_so o b e small =
-    ap (option_map (padded_integral (format_spec 32 0 4 2 (2 ^ 64 - 1)) false [])) e ∙ ap (λ (l : List ℕ). Some l) (fmt.hex_byte false b small)
-
--- a blank before it
-pub next_so : (o : Option (List ℕ)) (b : ℕ) → o ≡ Some (hex_byte b) → Some (32 ∷ []) ++? o ≡ Some (next_byte b)
-next_so o b e = ap (λ (x : Option (List ℕ)). Some (32 ∷ []) ++? x) e
-
--- what a write that succeeded shows of a text
-pub displayed : {W : Type 0} (took : W → List ℕ → W → Type 0) (f g : Formatter W) (o : Option (List ℕ)) (bs : List ℕ) → DisplaysOnOk took f (Ok tt) o g → o ≡ Some bs → IsPlainFormatter f → HasWritten took f bs g
-displayed took f g o bs h e p = subst (λ (x : Option (List ℕ)). DisplaysOnOk took f (Ok tt) x g) e h p refl
+-- what two digits write of a byte
+pub digits_so : (b h l : ℕ) → h < 128 → l < 128 → h ≡ hex_digit (b / 16) → l ≡ hex_digit (b % 16) → encode h ++ encode l ≡ hex_byte b
+digits_so b h l p q e f = (λ i. encode_ascii h p i ++ encode_ascii l q i) ∙ (λ i. e i ∷ f i ∷ [])
 
 pub put_none : {W : Type 0} (took : W → List ℕ → W → Type 0) (f : Formatter W) → IsPlainFormatter f → HasWritten took f [] f
 put_none took f p = record { wrote = writes_in_calls_nil took f.writer; plain = p }

@@ -1,7 +1,7 @@
 // The image under trial, and what is done to it.
 use crate::answer::*;
 use crate::script::*;
-use anyhow::Context;
+use anyhow::bail;
 use disk::place::*;
 use std::alloc::{AllocError, Global};
 use std::iter;
@@ -53,12 +53,14 @@ impl Bench {
     }
 }
 
-// Sets one byte of a block.
+// Sets one byte of a block. By tests, since context would carry the room of an error along for each byte.
 fn put(image: &mut Vec<u8>, place: Place, offset: u8, byte: u8) -> anyhow::Result<()> {
-    let index = block_index(place).context("no such block to change")?;
-    let old = image
-        .get_mut(256 * index + offset as usize)
-        .context("no such byte to change")?;
+    let Some(index) = block_index(place) else {
+        bail!("no such block to change");
+    };
+    let Some(old) = image.get_mut(256 * index + offset as usize) else {
+        bail!("no such byte to change");
+    };
     *old = byte;
     Ok(())
 }

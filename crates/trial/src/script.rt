@@ -1,6 +1,7 @@
 // The script: a command a line, in words with one blank between them. Numbers are decimal, or hexadecimal after $.
+ghost use Rattle.std.specs.Prelude.{◌<◌, IfSome};
+
 use anyhow::{bail, ensure};
-use commands::name::name_bytes;
 use disk::place::*;
 use std::alloc::Global;
 use std::mem;
@@ -100,8 +101,39 @@ impl<'a> Words<'a> {
     // All the rest as a name.
     fn name(&mut self, heap: Global) -> anyhow::Result<Vec<u8>> {
         let text = mem::take(&mut self.rest);
-        Ok(name_bytes(heap, text)?)
+        name_bytes(heap, text)
     }
+}
+
+// The value of a digit; the script spells its letters small.
+fn hex_digit(digit: u8) -> Option<u8>
+    ensures { IfSome result (λ d. d < 16) }
+{
+    match digit {
+        b'0'..=b'9' => Some(digit - b'0'),
+        b'a'..=b'f' => Some(digit - b'a' + 10),
+        _ => None,
+    }
+}
+
+// The bytes of a name, in which \xHH stands for any byte. Not by that of commands, which takes large letters too, refuses in other words, and walks a long name twice, byte by byte.
+fn name_bytes(heap: Global, text: &str) -> anyhow::Result<Vec<u8>> {
+    let mut pieces = text.split('\\');
+    let mut name = Vec::new(heap);
+    if let Some(plain) = pieces.next() {
+        name.extend_from_slice(plain.as_bytes())?;
+    }
+    for piece in pieces {
+        let [b'x', high, low, rest @ ..] = piece.as_bytes() else {
+            bail!("no byte after a backslash");
+        };
+        let (Some(high), Some(low)) = (hex_digit(*high), hex_digit(*low)) else {
+            bail!("no hexadecimal digit");
+        };
+        name.push(16 * high + low)?;
+        name.extend_from_slice(rest)?;
+    }
+    Ok(name)
 }
 
 // A command that changes the image, if the word is one.
