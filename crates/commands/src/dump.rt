@@ -16,7 +16,7 @@ fn hex_digit(number: u8) -> char
     }
 }
 
-// A byte as two digits. Not by `{:02x}`, which takes half as long again on a long name.
+// A byte as two digits. Not by `{:02x}`, which takes a quarter more time on a long name.
 #[derive(Clone, Copy)]
 pub struct HexByte(pub u8);
 

@@ -19,7 +19,7 @@ pub(crate) fn read16(file: &[u8], at: usize) -> usize
     u16::from_le_bytes([byte_at(file, at), byte_at(file, at + 1)]) as usize
 }
 
-// Four bytes as a number. Beside `read16`, since std reads each size by a function of its own; both byte by byte, since an array that a closure fills took the check four times as long.
+// Four bytes as a number. Beside `read16`, since std reads each size by a function of its own.
 #[tactic(auto, unfolding(crate::specs::Layout::number16, crate::specs::Layout::number32))]
 pub(crate) fn read32(file: &[u8], at: usize) -> usize
     requires { at < 2 ^ 32 }
